@@ -1,0 +1,11 @@
+-- The number of each refusal.
+use Prim.Native.Nat.{ℕ}
+use Rattle.answers.specs.declared.Refusal.{Refusal}
+use Rattle.answers.specs.declared.Refusal.the-variants.{NoSuchRole, Circular, PairsFull, BadSet, SetsFull}
+
+abbrev pub number-of : Refusal → ℕ
+number-of NoSuchRole = 21
+number-of Circular = 22
+number-of PairsFull = 23
+number-of BadSet = 25
+number-of SetsFull = 26

@@ -1,0 +1,31 @@
+// Why a request is refused, and the number by which each refusal is known.
+ghost use mathlib.Core.Path.{_≡_};
+ghost use Rattle.answers.specs.Numbers.{number-of};
+
+#[derive(Clone, Copy, PartialEq, Eq, Debug)]
+pub enum Refusal {
+    // drafting: no such role
+    NoSuchRole,
+    // drafting: senior equals junior, or the junior is over the senior already
+    Circular,
+    // drafting: the list office keeps 128 pairs already
+    PairsFull,
+    // drafting: a set of a bad size, with a repeated role or with a bad bound
+    BadSet,
+    // drafting: the office has 8 sets already
+    SetsFull,
+}
+
+impl Refusal {
+    pub fn number(self) -> u8
+        ensures { λ r. ⌜ r ≡ number-of self ⌝ }
+    {
+        match self {
+            Refusal::NoSuchRole => 21,
+            Refusal::Circular => 22,
+            Refusal::PairsFull => 23,
+            Refusal::BadSet => 25,
+            Refusal::SetsFull => 26,
+        }
+    }
+}

@@ -1,0 +1,25 @@
+-- The facts of a list of pairs have one proof at most, so they come out of a truncation.
+use mathlib.Core.Path.{_≡_}
+use mathlib.Core.List.{List}
+use mathlib.Core.Bool.{Bool}
+use mathlib.Core.Logic.{∥∥₁-elim}
+use Prim.Native.Nat.{ℕ}
+use denote.Struct.Props.{props}
+use Rattle.offices.proofs.Props.{order-prop}
+use Rattle.list_office.specs.declared.pair.Pair.{Pair}
+use Rattle.list_office.specs.Pairs.{Acyclic, Rows, closed-by}
+
+same : {A : Type 0} (x y : A) → IsProp A → x ≡ y
+same x y p = p x y
+
+acyclic-prop : (n : ℕ) (ps : List Pair) → IsProp (Acyclic n ps)
+acyclic-prop n ps p q = λ i. record {
+  inside = same (p .inside) (q .inside) (search props depth 9) i;
+  order = order-prop n (closed-by n ps) (p .order) (q .order) i;
+}
+
+pub acyclic-from : (n : ℕ) (ps : List Pair) → ∥ Acyclic n ps ∥₁ → Acyclic n ps
+acyclic-from n ps t = ∥∥₁-elim t (acyclic-prop n ps) (λ a. a)
+
+pub rows-from : (steps : ℕ → ℕ → Bool) (ps : List Pair) → ∥ Rows steps ps ∥₁ → Rows steps ps
+rows-from steps ps t = ∥∥₁-elim t (search props depth 9) (λ r. r)

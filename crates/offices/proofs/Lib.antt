@@ -1,0 +1,10 @@
+pub mod Bit
+pub mod Chaining
+pub mod Closing
+pub mod Histories
+pub mod Lawfulness
+pub mod PairAnswers
+pub mod Props
+pub mod RowFacts
+pub mod SetRows
+pub mod SetShape

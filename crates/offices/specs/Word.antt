@@ -1,0 +1,7 @@
+-- The bits of a number.
+use mathlib.Core.Bool.{Bool}
+use Prim.Native.Nat.{ℕ, _/_, _%_, _^_}
+use lib.Dec.{eqb}
+
+unfoldable pub bit : ℕ → ℕ → Bool
+bit w i = eqb (w / 2 ^ i % 2) 1
