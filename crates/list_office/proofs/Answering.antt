@@ -22,7 +22,7 @@ use Rattle.list_office.specs.declared.pair.Pair.{Pair}
 use Rattle.list_office.specs.declared.list.PairList.{PairList}
 use Rattle.list_office.specs.Listed.{pairs-in, list-over, with-pair}
 use Rattle.list_office.specs.Pairs.{has-pair, closed-by}
-use Rattle.list_office.proofs.PairProps.{rows-from, acyclic-from}
+use Rattle.list_office.proofs.PairProps.{rows-from, acyclic-from, steps-inside}
 use Rattle.list_office.proofs.PairFacts.{closes-pairs, closed-push}
 
 -- the marks of one start
@@ -69,7 +69,7 @@ module _ (l : PairList) where
 -- no step leads from or to what is no role
 pub no-step : (l : PairList) (a b : ℕ) → (l .roles ≤ a) ⊎ (l .roles ≤ b) → row-holds (l .juniors) a b ≡ false
 no-step l a b out = ⊎-elim
-    (λ t. let in-range = acyclic-from (l .roles) (pairs-in l) (l .order) .inside a b (sym (rows-from (row-holds (l .juniors)) (pairs-in l) (l .steps) a b) ∙ t) in
+    (λ t. let in-range = steps-inside l a b t in
     absurd (⊎-elim (λ h. omega (arith, in-range .0)) (λ h. omega (arith, in-range .1)) out))
     (λ f. f)
     (cases-bool (row-holds (l .juniors) a b))

@@ -8,6 +8,6 @@ pub mod offices;
 pub mod pair;
 
 pub use draft::ListDraft;
-pub use list::PairList;
 pub use office::ListOffice;
-pub use pair::Pair;
+pub use self::offices::ListOfficeGraph;
+pub use self::offices::ListOfficeOffice;

@@ -25,7 +25,7 @@ pub impl Graph for PairList as PairListGraph {
     }
 
     fn step(&self, from: usize, to: usize) -> bool {
-        let roles = self.roles as usize;
+        let roles = self.nodes();
         if from >= roles {
             return false;
         }

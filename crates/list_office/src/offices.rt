@@ -1,16 +1,24 @@
 ghost use mathlib.Core.Path.{_≡_};
 ghost use lib.ListN.{length};
 ghost use Rattle.list_office.specs.Listed.{list-model};
-use crate::list::PairList;
+ghost use Rattle.offices.specs.Members.{row-holds};
+use crate::lists::PairListGraph;
 use crate::office::ListOffice;
 use offices::Office;
+use search::Graph;
 
-impl ListOffice {
-    // The pairs as a graph, for whoever asks by which chain one role is over another.
-    pub fn pairs(&self) -> &PairList
-        ensures { λ r. ⌜ now r ≡ now (self .entry) .pairs ⌝ }
-    {
-        &self.pairs
+// The stored pairs as a graph, for whoever asks by which chain one role is over another.
+pub impl Graph for ListOffice as ListOfficeGraph {
+    ghost size = { λ o. o .pairs .roles };
+
+    ghost leads = { λ o. row-holds (o .pairs .juniors) };
+
+    fn nodes(&self) -> usize {
+        self.pairs.nodes()
+    }
+
+    fn step(&self, from: usize, to: usize) -> bool {
+        self.pairs.step(from, to)
     }
 }
 

@@ -78,7 +78,8 @@ impl SetTable {
     pub fn len(&self) -> u8
         ensures { λ r. ⌜ r ≡ length (table-sets (now (self .entry))) ⌝ }
     {
-        self.count
+        let count = self.count;
+        count
     }
 
     pub fn bound(&self, set: u8) -> u8

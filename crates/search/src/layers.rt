@@ -81,7 +81,7 @@ pub fn reach<G: Graph>(
 ) -> Arrival
     requires all { ⌜ n ≡ size (now graph) ⌝ ∗ ⌜ target < n ⌝ }
     requires room { ⌜ n ≤ length (now starts) ⌝ ∗ ⌜ n ≤ length (now near) ⌝ }
-    ensures { λ r. ⌜ Arriving n (leads (now (graph .entry))) (now (starts .entry)) target (now (near .exit)) r ⌝ }
+    ensures { λ r. ⌜ Arriving (size (now (graph .entry))) (leads (now (graph .entry))) (now (starts .entry)) target (now (near .exit)) r ⌝ }
 {
     seed_starts(starts, n, near);
     let ahead = AllSteps { graph };

@@ -1,15 +1,16 @@
-use mathlib.Core.Path.{_≡_, sym, _∙_}
-use Prim.Native.Nat.{_+_, _<_, _≤_}
+use mathlib.Core.Path.{_≡_, sym, _∙_, subst}
+use Prim.Native.Nat.{ℕ, _+_, _<_, _≤_}
 use native.Mathlib.Omega.{arith}
 use mathlib.Core.Logic.{⊎-elim}
 use lib.ListN.{getD}
+use Rattle.search.specs.Arrivals.{Arrives, Stops}
 use Rattle.search.specs.Layers.{marked}
 use Rattle.search.proofs.Reaching.{going-none, going-more, going-room, arrives, stops}
 use Rattle.search.proofs.layers.reach.Given as given
 use Rattle.search.proofs.layers.reach.Needs as need
 
 pub loop-near-holds : need.loop-near-holds
-loop-near-holds g c = going-none (c .args .n) (g .G·Graph .leads (c .args .graph .now)) (marked (c .args .starts .now)) (c .args .target) (c .seed-starts .last .d) (omega arith) (c .seed-starts .ensures)
+loop-near-holds g c = going-none (c .args .n) (g .G·Graph .leads (c .args .graph .now)) (marked (c .args .starts .now)) (c .args .target) (c .seed-starts .last .d) (omega arith) (λ v l. c .seed-starts .ensures v (omega arith))
 
 pub layer-count-requires : need.layer-count-requires
 layer-count-requires g c κs = let f = g .G·Graph·met .few (c .args .graph .now) in (omega arith, omega arith)
@@ -17,7 +18,8 @@ layer-count-requires g c κs = let f = g .G·Graph·met .few (c .args .graph .no
 pub returns-then-count-eq0 : need.returns-then-count-eq0
 returns-then-count-eq0 g c =
     let i = c .loop-near .inv in
-    stops (c .args .n) (g .G·Graph .leads (c .args .graph .now)) (c .args .starts .now) (λ a b h. let i = g .G·Graph·met .inside (c .args .graph .now) a b h in (omega (arith, i .0), omega (arith, i .1))) (c .loop-near .k) (c .loop-near .near) (i .layered) (omega (arith, g .G·Graph·met .few (c .args .graph .now))) (c .args .target) (c .loop-near .looked) (omega arith) (i .seen) (sym (c .layer-count .ensures .many) ∙ c .if-count-eq0 .taken) (c .loop-near-test .taken)
+    let P : ℕ → Type 0 = λ x. Stops x (g .G·Graph .leads (c .args .graph .now)) (c .args .starts .now) (c .args .target) (c .loop-near .looked) in
+    subst P (c .pre .all .0) (stops (c .args .n) (g .G·Graph .leads (c .args .graph .now)) (c .args .starts .now) (λ a b h. let i = g .G·Graph·met .inside (c .args .graph .now) a b h in (omega (arith, i .0), omega (arith, i .1))) (c .loop-near .k) (c .loop-near .near) (i .layered) (omega (arith, g .G·Graph·met .few (c .args .graph .now))) (c .args .target) (c .loop-near .looked) (omega arith) (i .seen) (sym (c .layer-count .ensures .many) ∙ c .if-count-eq0 .taken) (c .loop-near-test .taken))
 
 room : (g : given.Over) (c : need.Else-count-eq0 g) → c .loop-near .looked + c .layer-count .result ≤ c .args .n
 room g c =
@@ -43,4 +45,5 @@ pub returns : need.returns
 returns g c =
     let i = c .loop-near .inv in
     let at : getD (c .loop-near .near) (c .args .target) 0 ≡ c .loop-near .k = ⊎-elim (λ x. absurd (c .loop-near-test .left x)) (λ x. x) (i .target) in
-    arrives (c .args .n) (g .G·Graph .leads (c .args .graph .now)) (c .args .starts .now) (λ a b h. let i = g .G·Graph·met .inside (c .args .graph .now) a b h in (omega (arith, i .0), omega (arith, i .1))) (c .loop-near .k) (c .loop-near .near) (i .layered) (omega (arith, g .G·Graph·met .few (c .args .graph .now))) (c .args .target) (c .loop-near .looked) (omega arith) (i .seen) (i .few) at
+    let P : ℕ → Type 0 = λ x. Arrives x (g .G·Graph .leads (c .args .graph .now)) (c .args .starts .now) (c .args .target) (c .loop-near .near) (c .loop-near .k) (c .loop-near .looked) in
+    subst P (c .pre .all .0) (arrives (c .args .n) (g .G·Graph .leads (c .args .graph .now)) (c .args .starts .now) (λ a b h. let i = g .G·Graph·met .inside (c .args .graph .now) a b h in (omega (arith, i .0), omega (arith, i .1))) (c .loop-near .k) (c .loop-near .near) (i .layered) (omega (arith, g .G·Graph·met .few (c .args .graph .now))) (c .args .target) (c .loop-near .looked) (omega arith) (i .seen) (i .few) at)
