@@ -1,11 +1,12 @@
 -- The number of each refusal.
 use Prim.Native.Nat.{ℕ}
 use Rattle.answers.specs.declared.Refusal.{Refusal}
-use Rattle.answers.specs.declared.Refusal.the-variants.{NoSuchRole, Circular, PairsFull, BadSet, SetsFull}
+use Rattle.answers.specs.declared.Refusal.the-variants.{NoSuchRole, Circular, PairsFull, SeniorTaken, BadSet, SetsFull}
 
 abbrev pub number-of : Refusal → ℕ
 number-of NoSuchRole = 21
 number-of Circular = 22
 number-of PairsFull = 23
+number-of SeniorTaken = 24
 number-of BadSet = 25
 number-of SetsFull = 26

@@ -10,6 +10,8 @@ pub enum Refusal {
     Circular,
     // drafting: the list office keeps 128 pairs already
     PairsFull,
+    // drafting: the junior has a direct senior already
+    SeniorTaken,
     // drafting: a set of a bad size, with a repeated role or with a bad bound
     BadSet,
     // drafting: the office has 8 sets already
@@ -24,6 +26,7 @@ impl Refusal {
             Refusal::NoSuchRole => 21,
             Refusal::Circular => 22,
             Refusal::PairsFull => 23,
+            Refusal::SeniorTaken => 24,
             Refusal::BadSet => 25,
             Refusal::SetsFull => 26,
         }

@@ -13,9 +13,7 @@ use Rattle.search.specs.Asked.{Steps, Marked}
 use Rattle.search.specs.Outcomes.{Fitting, Finds, Misses}
 use Rattle.std.specs.declared.result.Result.the-variants.{Ok, Err}
 use Rattle.offices.specs.Order.{Closes}
-use Rattle.offices.specs.Drafting.{Answer, after-pair}
-use Rattle.offices.specs.Bases.{office-with}
-use Rattle.offices.specs.declared.base.OfficeBase.{OfficeBase}
+use Rattle.offices.specs.Drafting.{Answer, over-after}
 use Rattle.offices.specs.Members.{row-holds}
 use Rattle.offices.proofs.Closing.{closes-same, not-over}
 use Rattle.list_office.specs.declared.pair.Pair.{Pair}
@@ -42,52 +40,52 @@ only-start s v h = ⊎-elim
   blank v = ⊎-elim (λ l. getD-replicate 64 v false false l) (λ l. getD-past (replicate 64 false) v false (omega (arith, length-replicate 64 false))) (cases-lt v 64)
 
 module _ (l : PairList) where
-  list-closes : Closes (l .roles) (list-over l) (Steps (row-holds (l .juniors)))
+  list-closes : Closes 64 (list-over l) (Steps (row-holds (l .juniors)))
   list-closes =
       let rows = rows-from (row-holds (l .juniors)) (pairs-in l) (l .steps) in
-      closes-same (l .roles) (list-over l) (λ a b. has-pair (pairs-in l) a b ≡ true) (Steps (row-holds (l .juniors)))
+      closes-same 64 (list-over l) (λ a b. has-pair (pairs-in l) a b ≡ true) (Steps (row-holds (l .juniors)))
       (λ a b h. rows a b ∙ h)
       (λ a b h. sym (rows a b) ∙ h)
-      (closes-pairs (l .roles) (pairs-in l) (acyclic-from (l .roles) (pairs-in l) (l .order)))
+      (closes-pairs 64 (pairs-in l) (acyclic-from 64 (pairs-in l) (l .order)))
 
   module _ (s j : ℕ) where
-    pub over-found : (near home len looked : ℕ) (old new : List ℕ) → Finds (l .roles) (row-holds (l .juniors)) (one-start s) j near home old new len looked → list-over l s j ≡ true
+    pub over-found : (near home len looked : ℕ) (old new : List ℕ) → Finds 64 (row-holds (l .juniors)) (one-start s) j near home old new len looked → list-over l s j ≡ true
     over-found near home len looked old new f =
         let b = f .best in
         let from : b .from ≡ s = only-start s (b .from) (b .starts .1) in
-        list-closes s j .1 (subst (λ x. x < l .roles) from (b .starts .0), subst (λ x. Reaches (Steps (row-holds (l .juniors))) x j) from (f .chain, b .leads))
+        list-closes s j .1 (subst (λ x. x < 64) from (b .starts .0), subst (λ x. Reaches (Steps (row-holds (l .juniors))) x j) from (f .chain, b .leads))
 
-    pub over-missed : (near home looked : ℕ) (old new : List ℕ) → s < l .roles → Misses (l .roles) (row-holds (l .juniors)) (one-start s) j near home old new looked → list-over l s j ≡ false
+    pub over-missed : (near home looked : ℕ) (old new : List ℕ) → s < 64 → Misses 64 (row-holds (l .juniors)) (one-start s) j near home old new looked → list-over l s j ≡ false
     over-missed near home looked old new ls m = ⊎-elim
-        (λ t. absurd (m .none (s, (ls, start-marked s (omega (arith, l .few))), list-closes s j .0 t .1)))
+        (λ t. absurd (m .none (s, (ls, start-marked s (omega arith)), list-closes s j .0 t .1)))
         (λ f. f)
         (cases-bool (list-over l s j))
 
-    pub over-outside : (l .roles ≤ s) ⊎ (l .roles ≤ j) → list-over l s j ≡ false
-    over-outside = not-over (l .roles) (list-over l) (acyclic-from (l .roles) (pairs-in l) (l .order) .order) s j
+    pub over-outside : (64 ≤ s) ⊎ (64 ≤ j) → list-over l s j ≡ false
+    over-outside = not-over 64 (list-over l) (acyclic-from 64 (pairs-in l) (l .order) .order) s j
 
 -- no step leads from or to what is no role
-pub no-step : (l : PairList) (a b : ℕ) → (l .roles ≤ a) ⊎ (l .roles ≤ b) → row-holds (l .juniors) a b ≡ false
+pub no-step : (l : PairList) (a b : ℕ) → (64 ≤ a) ⊎ (64 ≤ b) → row-holds (l .juniors) a b ≡ false
 no-step l a b out = ⊎-elim
     (λ t. let in-range = steps-inside l a b t in
     absurd (⊎-elim (λ h. omega (arith, in-range .0)) (λ h. omega (arith, in-range .1)) out))
     (λ f. f)
     (cases-bool (row-holds (l .juniors) a b))
 
--- the office after a pair was offered to the list
-pub after-keep : (b : OfficeBase) (n : ℕ) (r : Answer) (ps new : List Pair) (p : Pair) → new ≡ with-pair r false ps p → office-with b (closed-by n new) ≡ after-pair r (office-with b (closed-by n ps)) (p .senior) (p .junior)
-after-keep b n (Ok u) ps new p e = ap (office-with b) (ap (closed-by n) e ∙ closed-push n ps p)
-after-keep b n (Err x) ps new p e = ap (office-with b) (ap (closed-by n) e)
-
 -- slices of 64 places are too short for no list of pairs
-pub over-unfit : (l : PairList) (s j near home strip : ℕ) → 64 ≤ near → 64 ≤ home → 64 ≤ strip → (Fitting (l .roles) j (length (one-start s)) near home strip → ⊥) → list-over l s j ≡ false
+pub over-unfit : (l : PairList) (s j near home strip : ℕ) → 64 ≤ near → 64 ≤ home → 64 ≤ strip → (Fitting 64 j (length (one-start s)) near home strip → ⊥) → list-over l s j ≡ false
 over-unfit l s j near home strip ln lh ls unfit = ⊎-elim
     (λ lj. absurd (unfit (record {
       target = lj;
-      starts-room = omega (arith, l .few, length-set (replicate 64 false) s true, length-replicate 64 false);
-      near-room = omega (arith, l .few);
-      home-room = omega (arith, l .few);
-      strip-room = omega (arith, l .few);
+      starts-room = omega (arith, length-set (replicate 64 false) s true, length-replicate 64 false);
+      near-room = omega arith;
+      home-room = omega arith;
+      strip-room = omega arith;
     })))
     (λ lj. over-outside l s j (inr lj))
-    (cases-lt j (l .roles))
+    (cases-lt j 64)
+
+-- the pairs after one was answered so, and their seniority
+pub over-kept : (r : Answer) (ps new : List Pair) (p : Pair) → new ≡ with-pair r ps p → closed-by 64 new ≡ over-after r (closed-by 64 ps) (p .senior) (p .junior)
+over-kept (Ok u) ps new p e = ap (closed-by 64) e ∙ closed-push 64 ps p
+over-kept (Err x) ps new p e = ap (closed-by 64) e

@@ -28,5 +28,5 @@ pub rows-from : (steps : ℕ → ℕ → Bool) (ps : List Pair) → ∥ Rows ste
 rows-from steps ps t = ∥∥₁-elim t (search props depth 9) (λ r. r)
 
 -- a step leads between two roles
-pub steps-inside : (l : PairList) (a b : ℕ) → row-holds (l .juniors) a b ≡ true → (a < l .roles) × (b < l .roles)
-steps-inside l a b h = acyclic-from (l .roles) (pairs-in l) (l .order) .inside a b (sym (rows-from (row-holds (l .juniors)) (pairs-in l) (l .steps) a b) ∙ h)
+pub steps-inside : (l : PairList) (a b : ℕ) → row-holds (l .juniors) a b ≡ true → (a < 64) × (b < 64)
+steps-inside l a b h = acyclic-from 64 (pairs-in l) (l .order) .inside a b (sym (rows-from (row-holds (l .juniors)) (pairs-in l) (l .steps) a b) ∙ h)

@@ -9,7 +9,7 @@ use lib.Dec.{ltb, eqb}
 use Rattle.std.proofs.shelf.Tests.{or-cases, or-left, or-right, and-parts, and-from, both-ways, cases-bool, ltb-true, eqb-true, lt-ltb, eq-eqb}
 use Rattle.search.specs.Chains.{Chain, alone, onward, Reaches}
 use Rattle.offices.specs.Order.{Order, Closes, itself-alone, grown}
-use Rattle.offices.proofs.Chaining.{chain-on, chain-wider, reaches-step, reaches-itself}
+use Rattle.search.proofs.Chaining.{chain-on, chain-wider, reaches-step, reaches-itself}
 
 module _ (over : ℕ → ℕ → Bool) (s j : ℕ) where
   parts : (a b : ℕ) → grown over s j a b ≡ true → (over a b ≡ true) ⊎ ((over a s ≡ true) × (over j b ≡ true))

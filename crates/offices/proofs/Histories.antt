@@ -12,7 +12,7 @@ use Rattle.answers.specs.declared.Refusal.{Refusal}
 use Rattle.answers.specs.declared.Refusal.the-variants.{NoSuchRole, Circular}
 use Rattle.offices.specs.Model.{OfficeModel, SetModel}
 use Rattle.offices.specs.Order.{Closes, grown}
-use Rattle.offices.specs.Drafting.{Answer, Call, pair, share, exclude, Event, Accepted, Paired, Drafted, Keeps, fresh, set-told, sets-told, after-pair, after-mark, after-set, pair-answer}
+use Rattle.offices.specs.Drafting.{Answer, Call, pair, share, exclude, Event, Accepted, Paired, Drafted, Keeps, fresh, set-told, sets-told, after-pair, after-mark, after-set}
 use Rattle.offices.proofs.Closing.{closes-none, closes-more, closes-same}
 
 pub drafted-none : (n : ℕ) → Drafted n [] (fresh (min n 64))
@@ -131,13 +131,6 @@ keeps-exclude m ms t (Ok u) n h d = carried m _ (exclude ms t) (Ok tt) n h d
     (λ a. other-call (exclude ms t) (Ok tt) h (share a) (share-not-set a ms t))
     (ap (λ x. x ++ (record { members = ms; bound = t } ∷ [])) (d .sets))
 keeps-exclude m ms t (Err e) n h d = keeps-refused m (exclude ms t) e n h d
-
--- an accepted pair is one of two roles that exist
-pub pair-exists : (m : OfficeModel) (own : Answer) (s j : ℕ) → pair-answer m own s j ≡ Ok tt → (s < m .roles) × (j < m .roles)
-pair-exists m own s j h = ⊎-elim
-    (λ t. let p = and-parts (ltb s (m .roles)) (ltb j (m .roles)) t in (ltb-true s (m .roles) (p .0), ltb-true j (m .roles) (p .1)))
-    (λ f. let g : _≡_ {A = Answer} (Err NoSuchRole) (Ok tt) = rw f at h in let z : _≡_ {A = ℕ} 0 1 = cc in absurd (omega arith))
-    (cases-bool (ltb s (m .roles) && ltb j (m .roles)))
 
 pub keeps-to : (m : OfficeModel) (c : Call) (r : Answer) (x y : OfficeModel) → y ≡ x → Keeps m c r x → Keeps m c r y
 keeps-to m c r x y e k n h d = subst (λ o. Drafted n (record { call = c; answer = r } ∷ h) o) (sym e) (k n h d)

@@ -1,5 +1,4 @@
 pub mod Bit
-pub mod Chaining
 pub mod Closing
 pub mod Histories
 pub mod Lawfulness

@@ -64,16 +64,20 @@ Keeps before c r after = (n : ℕ) (h : List Event) → Drafted n h before → D
 abbrev pub fresh : ℕ → OfficeModel
 fresh n = record { roles = n; over = itself-alone n; shared = λ a. false; sets = [] }
 
--- the answer to a pair; `own` is what the kind of office answers to one that does not follow already
-abbrev pub pair-answer : OfficeModel → Answer → ℕ → ℕ → Answer
-pair-answer m own s j =
-    cond (ltb s (m .roles) && ltb j (m .roles))
-    (cond (eqb s j || m .over j s) (Err Circular) (cond (m .over s j) (Ok tt) own))
+-- the answer to a pair, in an office of n roles with this seniority; `own` is what the kind of office
+-- answers to one that does not follow already
+abbrev pub pair-answer : ℕ → (ℕ → ℕ → Bool) → Answer → ℕ → ℕ → Answer
+pair-answer n over own s j =
+    cond (ltb s n && ltb j n)
+    (cond (eqb s j || over j s) (Err Circular) (cond (over s j) (Ok tt) own))
     (Err NoSuchRole)
 
+abbrev pub over-after : Answer → (ℕ → ℕ → Bool) → ℕ → ℕ → ℕ → ℕ → Bool
+over-after (Ok u) over s j = grown over s j
+over-after (Err e) over s j = over
+
 abbrev pub after-pair : Answer → OfficeModel → ℕ → ℕ → OfficeModel
-after-pair (Ok u) m s j = record { roles = m .roles; over = grown (m .over) s j; shared = m .shared; sets = m .sets }
-after-pair (Err e) m s j = m
+after-pair r m s j = record { roles = m .roles; over = over-after r (m .over) s j; shared = m .shared; sets = m .sets }
 
 -- the answer to a shared mark, in an office of n roles
 abbrev pub mark-answer : ℕ → ℕ → Answer

@@ -25,3 +25,7 @@ itself-alone n a b = ltb a n && eqb b a
 -- what was so already, and what follows once s is over j
 abbrev pub grown : (ℕ → ℕ → Bool) → ℕ → ℕ → ℕ → ℕ → Bool
 grown over s j a b = over a b || (over a s && over j b)
+
+-- the relation among the roles below n alone
+abbrev pub within : ℕ → (ℕ → ℕ → Bool) → ℕ → ℕ → Bool
+within n over a b = (ltb a n && ltb b n) && over a b

@@ -12,6 +12,7 @@ use Rattle.search.specs.declared.Outcome.the-variants.{Found, NoChain, Unfit}
 use Rattle.search.specs.Chains.{Chain, Best, Before, Number, Nearer, Reached, tally}
 use Rattle.search.specs.Asked.{Steps, Marked}
 use Rattle.search.specs.Outcomes.{Searched}
+use Rattle.search.proofs.Tallies.{tally-mono}
 use Rattle.search.specs.Laws.{One-best, One-nearer, One-reached, Nearer-few, One-outcome}
 
 -- two lists as long, each before the other, are one
@@ -33,15 +34,6 @@ best-same S Start t xs ys p q =
     let b = q .shortest (p .from) xs (p .starts) (p .leads) in
     let l : length xs ≡ length ys = omega arith in
     before-same xs ys l (p .first (q .from) ys (q .starts) (q .leads) (sym l)) (q .first (p .from) xs (p .starts) (p .leads) l)
-
-tally-mono : (p q : ℕ → Bool) (n : ℕ) → ((v : ℕ) → v < n → p v ≡ true → q v ≡ true) → tally p n ≤ tally q n
-tally-mono p q zero h = omega arith
-tally-mono p q (suc n) h =
-    let ih = tally-mono p q n (λ v l e. h v (omega arith) e) in
-    ⊎-elim
-    (λ e. let f : q n ≡ true = h n (omega arith) e in rw (e, f) (omega arith))
-    (λ e. rw e (omega arith))
-    (cases-bool (p n))
 
 pub number-le : (P Q : ℕ → Type 0) (n a b : ℕ) → ((v : ℕ) → P v → Q v) → Number n P a → Number n Q b → a ≤ b
 number-le P Q n a b f x y =

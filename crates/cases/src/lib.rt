@@ -1,0 +1,6 @@
+// Worked examples.
+#[cfg(test)]
+mod chains;
+mod table;
+
+pub use table::Table;

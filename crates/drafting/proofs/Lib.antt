@@ -1,0 +1,2 @@
+pub mod KeepAnswers
+pub mod Within

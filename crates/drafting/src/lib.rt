@@ -1,0 +1,12 @@
+// Drafting an office of any kind, and the sealed office that comes of it.
+pub mod draft;
+pub mod drafts;
+pub mod offices;
+pub mod sealed;
+pub mod seniority;
+
+pub use draft::Draft;
+pub use sealed::Sealed;
+pub use self::offices::SealedGraph;
+pub use self::offices::SealedOffice;
+pub use seniority::Seniority;
