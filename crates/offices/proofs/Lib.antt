@@ -1,5 +1,6 @@
 pub mod Bit
 pub mod Closing
+pub mod Fitted
 pub mod Histories
 pub mod Lawfulness
 pub mod PairAnswers

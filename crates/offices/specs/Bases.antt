@@ -11,6 +11,9 @@ use Rattle.offices.specs.declared.base.OfficeBase.{OfficeBase}
 abbrev pub table-sets : SetTable → List SetModel
 table-sets t = sets-of (t .count) (t .sets)
 
+abbrev pub table-roles : SetTable → ℕ
+table-roles t = t .roles
+
 abbrev pub base-roles : OfficeBase → ℕ
 base-roles b = b .table .roles
 

@@ -11,3 +11,4 @@ pub mod tables;
 pub use base::OfficeBase;
 pub use office::Office;
 pub use role_set::RoleSet;
+pub use table::SetTable;

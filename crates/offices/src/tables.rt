@@ -2,10 +2,10 @@ ghost use mathlib.Core.Path.{_≡_};
 ghost use mathlib.Core.List.{[]};
 ghost use Prim.Native.Nat.{min, _≤_};
 ghost use lib.ListN.{length, take};
-ghost use Rattle.offices.specs.Bases.{table-sets};
+ghost use Rattle.offices.specs.Bases.{table-roles, table-sets};
 ghost use Rattle.offices.specs.Drafting.{set-answer, with-set};
 ghost use Rattle.offices.specs.Model.{bound-at, member-at};
-ghost use Rattle.offices.specs.Sets.{set-model};
+ghost use Rattle.offices.specs.Sets.{set-model, sets-of, fitted};
 use crate::exclusive::ExclusiveSet;
 use crate::members::exist;
 use crate::members::well_formed;
@@ -35,19 +35,25 @@ fn exclusive_set(members: &[u8], bound: u8) -> ExclusiveSet
     }
 }
 
+// More than 64 roles are 64.
+fn at_most_64(roles: u8) -> u8
+    ensures { λ r. ⌜ r ≡ min roles 64 ⌝ }
+{
+    if roles < 64 { roles } else { 64 }
+}
+
 impl SetTable {
     // No set yet, over `roles` roles, or 64 where that is less.
     pub fn new(roles: u8) -> SetTable
         ensures { λ r. ⌜ r .roles ≡ min roles 64 ⌝ ∗ ⌜ table-sets r ≡ [] ⌝ }
     {
-        let roles = if roles > 64 { 64 } else { roles };
         let blank = ExclusiveSet {
             members: [0; 8],
             size: 0,
             bound: 0,
         };
         SetTable {
-            roles,
+            roles: at_most_64(roles),
             count: 0,
             sets: [blank; 8],
         }
@@ -73,6 +79,38 @@ impl SetTable {
         self.sets[at as usize] = set;
         self.count = at + 1;
         Ok(())
+    }
+
+    // How many sets fit `roles` roles and `room`.
+    fn keeping(&self, roles: u8, room: u8) -> u8
+        ensures few { λ r. ⌜ r ≤ 8 ⌝ }
+        ensures sets { λ r. ⌜ sets-of r (now (self .entry) .sets) ≡ fitted (table-roles (now (self .entry))) roles room (table-sets (now (self .entry))) ⌝ }
+    {
+        if self.roles > roles {
+            return 0;
+        }
+        if self.count > room {
+            return room;
+        }
+        self.count
+    }
+
+    // Makes it a table over `roles` roles (more than 64 are 64), with the sets that fit them, at most `room`.
+    pub fn fit(&mut self, roles: u8, room: u8)
+        ensures roles { λ _. ⌜ table-roles (now (self .exit)) ≡ min roles 64 ⌝ }
+        ensures sets { λ _. ⌜ table-sets (now (self .exit)) ≡ fitted (table-roles (now (self .entry))) (min roles 64) room (table-sets (now (self .entry))) ⌝ }
+    {
+        let roles = at_most_64(roles);
+        let keep = self.keeping(roles, room);
+        self.count = keep;
+        self.roles = roles;
+    }
+
+    pub fn roles(&self) -> u8
+        ensures { λ r. ⌜ r ≡ table-roles (now (self .entry)) ⌝ }
+    {
+        let roles = self.roles;
+        roles
     }
 
     pub fn len(&self) -> u8

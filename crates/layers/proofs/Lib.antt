@@ -1,0 +1,3 @@
+pub mod HouseSets
+pub mod HouseDrafts
+pub mod Withholding
