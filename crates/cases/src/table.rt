@@ -7,7 +7,7 @@ ghost use Rattle.cases.specs.Tables.{cell};
 use search::Graph;
 
 #[derive(Drop)]
-pub struct Table {
+pub(crate) struct Table {
     nodes: usize,
     cells: [bool; 64],
     ghost few: { nodes ≤ 8 },
@@ -16,7 +16,7 @@ pub struct Table {
 
 impl Table {
     // No steps yet.
-    pub fn new(nodes: usize) -> Table
+    pub(crate) fn new(nodes: usize) -> Table
         requires { ⌜ nodes ≤ 8 ⌝ }
         ensures { λ r. ⌜ r .nodes ≡ nodes ⌝ ∗ ⌜ r .cells ≡ replicate 64 false ⌝ }
     {
@@ -27,7 +27,7 @@ impl Table {
     }
 
     // One step more.
-    pub fn with(self, from: usize, to: usize) -> Table
+    pub(crate) fn with(self, from: usize, to: usize) -> Table
         requires { ⌜ from < 8 ⌝ ∗ ⌜ to < 8 ⌝ }
         ensures { λ r. ⌜ r .nodes ≡ self .nodes ⌝ ∗ ⌜ r .cells ≡ set (self .cells) (from * 8 + to) true ⌝ }
     {
@@ -40,7 +40,7 @@ impl Table {
     }
 }
 
-pub impl Graph for Table as TableGraph {
+pub(crate) impl Graph for Table as TableGraph {
     ghost size = { λ x. x .nodes };
 
     ghost leads = { λ x a b. cell (x .nodes) (x .cells) a b };

@@ -13,7 +13,7 @@ pub impl<S: Seniority> Office for Sealed<S> as SealedOffice {
     }
 
     fn is_over(&self, senior: u8, junior: u8) -> bool {
-        let roles = self.base.role_count();
+        let roles = self.role_count();
         senior < roles && junior < roles && self.seniority.is_over(senior, junior)
     }
 
@@ -41,11 +41,11 @@ pub impl<S: Seniority + Graph> Graph for Sealed<S> as SealedGraph {
     ghost leads = { λ x. within (base-roles (x .base)) (S·Graph .leads (x .seniority)) };
 
     fn nodes(&self) -> usize {
-        self.base.role_count() as usize
+        self.role_count() as usize
     }
 
     fn step(&self, from: usize, to: usize) -> bool {
-        let roles = self.base.role_count() as usize;
+        let roles = self.nodes();
         from < roles && to < roles && self.seniority.step(from, to)
     }
 }

@@ -18,7 +18,7 @@ pub impl Graph for PairList as PairListGraph {
     ghost leads = { λ l. row-holds (l .juniors) };
 
     fn nodes(&self) -> usize {
-        64
+        self.juniors.len()
     }
 
     fn step(&self, from: usize, to: usize) -> bool {

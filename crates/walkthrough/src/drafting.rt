@@ -1,6 +1,7 @@
 use crate::notes::note;
 use list_office::ListDraft;
 use list_office::ListOffice;
+use list_office::PairListSeniority;
 use std::io;
 
 fn seniority(rt: &LibcRuntime, draft: &mut ListDraft) -> io::Result<()> {

@@ -1,5 +1,7 @@
 // Carries a real task through, with a printed note of each thing done.
+mod bank;
 mod drafting;
+mod houses;
 mod notes;
 mod questions;
 
@@ -14,5 +16,14 @@ fn main(rt: LibcRuntime) -> io::Result<()> {
     questions::about_sets(&rt, &office)?;
     println!(rt, "")?;
     println!(rt, "By which chain one role is over another")?;
-    questions::by_which_chain(&rt, &office)
+    questions::by_which_chain(&rt, &office)?;
+    println!(rt, "")?;
+    println!(rt, "Four houses more draft theirs")?;
+    let parish = houses::parish(&rt)?;
+    let estate = houses::estate(&rt)?;
+    let abbey = houses::abbey(&rt)?;
+    let chapel = houses::chapel(&rt)?;
+    println!(rt, "")?;
+    println!(rt, "The five are joined to a bank, and the bank is asked")?;
+    bank::asked(&rt, bank::joined(office, parish, estate, abbey, chapel))
 }

@@ -7,6 +7,7 @@ fn reason(refusal: Refusal) -> &'static str {
         Refusal::NoSuchRole => "there is no such role",
         Refusal::Circular => "the two are one role, or the junior is over the senior already",
         Refusal::PairsFull => "there are 128 pairs already",
+        Refusal::SeniorTaken => "the junior has a direct senior already",
         Refusal::BadSet => "a set has 2 to 8 different roles and a bound from 2 to its size",
         Refusal::SetsFull => "there are 8 sets already",
     }

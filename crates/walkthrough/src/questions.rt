@@ -1,8 +1,10 @@
 use crate::notes::role_name;
 use crate::notes::yes_or_no;
+use drafting::SealedGraph;
+use drafting::SealedOffice;
 use list_office::ListOffice;
-use list_office::ListOfficeGraph;
-use list_office::ListOfficeOffice;
+use list_office::PairListGraph;
+use list_office::PairListSeniority;
 use offices::Office;
 use search::Outcome;
 use search::best_chain;

@@ -1,0 +1,6 @@
+pub mod Splitting
+pub mod Counted
+pub mod Properly
+pub mod Parts
+pub mod Round
+pub mod Pasting
