@@ -16,6 +16,12 @@ pub enum Refusal {
     BadSet,
     // drafting: the office has 8 sets already
     SetsFull,
+    // sheet: the line has another length
+    WrongLength,
+    // sheet: the line begins with no request's word
+    UnknownWord,
+    // sheet: a number, a shelf mark or an unused field is not written as it should be
+    BadField,
 }
 
 impl Refusal {
@@ -29,6 +35,9 @@ impl Refusal {
             Refusal::SeniorTaken => 24,
             Refusal::BadSet => 25,
             Refusal::SetsFull => 26,
+            Refusal::WrongLength => 31,
+            Refusal::UnknownWord => 32,
+            Refusal::BadField => 33,
         }
     }
 }

@@ -6,6 +6,9 @@ pub mod one;
 
 pub use bank::Bank;
 pub use codes::RoleAt;
+pub use codes::RoleAtDebug;
+pub use codes::RoleAtEq;
+pub use codes::RoleAtPartialEq;
 pub use codes::code_of;
 pub use codes::role_at;
 pub use join::Join;

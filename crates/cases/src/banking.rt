@@ -32,17 +32,33 @@ fn a_foreign_office_beside_ours() -> Result<(), Fail> {
     check_eq(role_at(&bank, 999999), None)
 }
 
-// The sixteenth office, 15, is heard, and the seventeenth is not.
-#[test]
-fn sixteen_are_heard() -> Result<(), Fail> {
-    let four = Join::new(Join::new(Join::new(One::new(Columns::new(1)), Columns::new(2)), Columns::new(3)), Columns::new(4));
-    let eight = Join::new(Join::new(Join::new(Join::new(four, Columns::new(5)), Columns::new(6)), Columns::new(7)), Columns::new(8));
-    let twelve = Join::new(Join::new(Join::new(Join::new(eight, Columns::new(9)), Columns::new(10)), Columns::new(11)), Columns::new(12));
-    let sixteen = Join::new(Join::new(Join::new(Join::new(twelve, Columns::new(13)), Columns::new(14)), Columns::new(15)), Columns::new(16));
-    check_eq(sixteen.office_count(), 16)?;
-    let bank = Join::new(sixteen, Columns::new(17));
+fn heard<B: Bank + Drop>(bank: B) -> Result<(), Fail> {
+    check_eq(bank.office_count(), 16)?;
+    let bank = Join::new(bank, Columns::new(17));
     check_eq(bank.office_count(), 16)?;
     check_eq(bank.role_count(15), 16)?;
     check_eq(bank.role_count(16), 0)?;
     check(bank.is_over(15, 8, 0) && !bank.is_over(16, 8, 0))
+}
+
+fn from_thirteen<B: Bank + Drop>(bank: B) -> Result<(), Fail> {
+    heard(Join::new(Join::new(Join::new(bank, Columns::new(14)), Columns::new(15)), Columns::new(16)))
+}
+
+fn from_ten<B: Bank + Drop>(bank: B) -> Result<(), Fail> {
+    from_thirteen(Join::new(Join::new(Join::new(bank, Columns::new(11)), Columns::new(12)), Columns::new(13)))
+}
+
+fn from_seven<B: Bank + Drop>(bank: B) -> Result<(), Fail> {
+    from_ten(Join::new(Join::new(Join::new(bank, Columns::new(8)), Columns::new(9)), Columns::new(10)))
+}
+
+fn from_four<B: Bank + Drop>(bank: B) -> Result<(), Fail> {
+    from_seven(Join::new(Join::new(Join::new(bank, Columns::new(5)), Columns::new(6)), Columns::new(7)))
+}
+
+// The sixteenth office, 15, is heard, and the seventeenth is not.
+#[test]
+fn sixteen_are_heard() -> Result<(), Fail> {
+    from_four(Join::new(Join::new(Join::new(One::new(Columns::new(1)), Columns::new(2)), Columns::new(3)), Columns::new(4)))
 }

@@ -1,4 +1,5 @@
 pub mod Splitting
+pub mod Joining
 pub mod Counted
 pub mod Properly
 pub mod Parts

@@ -1,14 +1,13 @@
 -- How a number stands in its six columns.
-use mathlib.Core.Path.{_≡_, refl, sym, _∙_, ap, subst}
+use mathlib.Core.Path.{_≡_, refl}
 use mathlib.Core.Logic.{_⊎_, inl, inr}
 use mathlib.Core.Bool.{Bool, true, false, cond}
-use mathlib.Core.List.{List}
-use Prim.Native.Nat.{ℕ, zero, suc, _+_, _*_, _/_, _%_, _<_, _≤_}
+use Prim.Native.Nat.{ℕ, zero, suc, _+_, _/_, _%_, _<_, _≤_}
 use native.Mathlib.Omega.{arith}
 use lib.Dec.{ltb}
 use lib.ListN.{getD}
-use borrow.Author.Tests.{ltb-true, ltb-false, lt-ltb, le-ltb}
-use Rattle.sheets.specs.Columns.{column-byte, six, counts}
+use borrow.Author.Tests.{ltb-true, ltb-false}
+use Rattle.sheets.specs.Columns.{column-byte, six}
 use Rattle.sheets.specs.Fields.{value, Proper}
 use Rattle.sheets.proofs.Counted.{counts-six}
 

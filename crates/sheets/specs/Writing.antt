@@ -11,7 +11,7 @@ use Rattle.answers.specs.declared.Refusal.{Refusal}
 use Rattle.answers.specs.declared.Refusal.the-variants.{WrongLength, BadField}
 use Rattle.sheets.specs.declared.token.Token.{Token}
 use Rattle.sheets.specs.Columns.{six}
-use Rattle.sheets.specs.Slips.{Slip, pair-slip, handback-slip, box-slip, send-slip, meaning, written, Writable}
+use Rattle.sheets.specs.Slips.{Slip, pair-slip, handback-slip, box-slip, meaning, written, Writable}
 
 -- the bytes `line`, if there is room for exactly that many and they can be written; else all is as it was
 abbrev pub Put : ℕ → Type 0 → List ℕ → List ℕ → Result (Unit {0}) Refusal → List ℕ → Type 0
@@ -31,9 +31,6 @@ PutOne a = PutSlip (handback-slip a)
 
 abbrev pub PutMark : List ℕ → List ℕ → Result (Unit {0}) Refusal → List ℕ → Type 0
 PutMark mark = PutSlip (box-slip mark)
-
-abbrev pub PutNone : List ℕ → Result (Unit {0}) Refusal → List ℕ → Type 0
-PutNone = PutSlip send-slip
 
 abbrev pub Writes : Token → List ℕ → Result (Unit {0}) Refusal → List ℕ → Type 0
 Writes t = PutSlip (meaning t)

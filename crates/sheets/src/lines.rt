@@ -1,6 +1,6 @@
 // The lines of a sheet, one after the other.
 ghost use mathlib.Core.Path.{_≡_};
-ghost use Rattle.sheets.specs.Lines.{Gives};
+ghost use Rattle.sheets.specs.Lines.{lines-of, lines-left, Gives};
 
 // A sheet, and the place where its next line begins.
 #[derive(Drop)]
@@ -11,7 +11,8 @@ pub struct Lines<'a> {
 
 impl<'a> Lines<'a> {
     pub fn new(sheet: &'a [u8]) -> Lines<'a>
-        ensures { λ r. ⌜ r .sheet ≡ sheet .entry ⌝ ∗ ⌜ r .place ≡ 0 ⌝ }
+        ensures start { λ r. ⌜ r .sheet ≡ sheet .entry ⌝ ∗ ⌜ r .place ≡ 0 ⌝ }
+        ensures all { λ r. ⌜ lines-left r ≡ lines-of (now (sheet .entry)) ⌝ }
     {
         Lines { sheet, place: 0 }
     }
@@ -19,7 +20,7 @@ impl<'a> Lines<'a> {
     // The next line, without the line feed that ends it, or nothing at the end of the sheet.
     pub fn next_line(&mut self) -> Option<&'a [u8]>
         ensures same { λ r. ⌜ now (self .exit) .sheet ≡ now (self .entry) .sheet ⌝ }
-        ensures gives { λ r. ⌜ Gives (now (now (self .entry) .sheet)) (now (self .entry) .place) r (now (self .exit) .place) ⌝ }
+        ensures gives { λ r. ⌜ Gives (now (self .entry)) r (now (self .exit)) ⌝ }
     {
         let sheet = self.sheet;
         let start = self.place;

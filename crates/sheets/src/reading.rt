@@ -11,10 +11,6 @@ use sheet_words::PairWord;
 use sheet_words::Word;
 use sheet_words::read_word;
 
-const FIRST_FIELD: u8 = 9;
-
-const SECOND_FIELD: u8 = 15;
-
 fn is_blank(field: &[u8]) -> bool
     ensures { λ r. ⌜ Decides r (now (field .entry) ≡ blank) ⌝ }
 {

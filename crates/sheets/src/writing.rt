@@ -2,7 +2,7 @@
 ghost use mathlib.Core.Path.{_≡_};
 ghost use mathlib.Core.List.{_++_};
 ghost use lib.ListN.{length};
-ghost use Rattle.sheets.specs.Writing.{PutPair, PutOne, PutMark, PutNone, Writes, PutFour};
+ghost use Rattle.sheets.specs.Writing.{PutPair, PutOne, PutMark, Writes, PutFour};
 use crate::numbers::LARGEST;
 use crate::numbers::six_columns;
 use crate::reading::is_mark;
@@ -23,15 +23,10 @@ fn put_parts(line: &mut [u8], word: &[u8], first: &[u8], second: &[u8])
 }
 
 fn put_pair(line: &mut [u8], word: PairWord, first: u32, second: u32) -> Result<(), Refusal>
+    requires { ⌜ length (now line) ≡ 20 ⌝ }
     ensures { λ r. ⌜ PutPair word first second (now (line .entry)) r (now (line .exit)) ⌝ }
 {
-    if line.len() != 20 {
-        return Err(Refusal::WrongLength);
-    }
-    if first > LARGEST {
-        return Err(Refusal::BadField);
-    }
-    if second > LARGEST {
+    if first > LARGEST || second > LARGEST {
         return Err(Refusal::BadField);
     }
     put_parts(
@@ -44,11 +39,9 @@ fn put_pair(line: &mut [u8], word: PairWord, first: u32, second: u32) -> Result<
 }
 
 fn put_handback(line: &mut [u8], card: u32) -> Result<(), Refusal>
+    requires { ⌜ length (now line) ≡ 20 ⌝ }
     ensures { λ r. ⌜ PutOne card (now (line .entry)) r (now (line .exit)) ⌝ }
 {
-    if line.len() != 20 {
-        return Err(Refusal::WrongLength);
-    }
     if card > LARGEST {
         return Err(Refusal::BadField);
     }
@@ -62,11 +55,9 @@ fn put_handback(line: &mut [u8], card: u32) -> Result<(), Refusal>
 }
 
 fn put_box(line: &mut [u8], mark: &[u8]) -> Result<(), Refusal>
+    requires { ⌜ length (now line) ≡ 20 ⌝ }
     ensures { λ r. ⌜ PutMark (now (mark .entry)) (now (line .entry)) r (now (line .exit)) ⌝ }
 {
-    if line.len() != 20 {
-        return Err(Refusal::WrongLength);
-    }
     if !is_mark(mark) {
         return Err(Refusal::BadField);
     }
@@ -74,20 +65,13 @@ fn put_box(line: &mut [u8], mark: &[u8]) -> Result<(), Refusal>
     Ok(())
 }
 
-fn put_send(line: &mut [u8]) -> Result<(), Refusal>
-    ensures { λ r. ⌜ PutNone (now (line .entry)) r (now (line .exit)) ⌝ }
-{
-    if line.len() != 20 {
-        return Err(Refusal::WrongLength);
-    }
-    put_parts(line, &write_word(Word::Send), b"      ", b"      ");
-    Ok(())
-}
-
 // Fills the twenty bytes of `line` with the token's line, or refuses and leaves them as they are.
 pub fn write_line(token: Token<'_>, line: &mut [u8]) -> Result<(), Refusal>
     ensures { λ r. ⌜ Writes (token .entry) (now (line .entry)) r (now (line .exit)) ⌝ }
 {
+    if line.len() != 20 {
+        return Err(Refusal::WrongLength);
+    }
     match token {
         Token::Issue { card, office } => put_pair(line, PairWord::Issue, card, office),
         Token::Assign { card, code } => put_pair(line, PairWord::Assign, card, code),
@@ -107,7 +91,10 @@ pub fn write_line(token: Token<'_>, line: &mut [u8]) -> Result<(), Refusal>
         Token::Withdraw { from, to } => put_pair(line, PairWord::Withdraw, from, to),
         Token::May { card, code } => put_pair(line, PairWord::May, card, code),
         Token::Box { mark } => put_box(line, mark),
-        Token::Send => put_send(line),
+        Token::Send => {
+            put_parts(line, &write_word(Word::Send), b"      ", b"      ");
+            Ok(())
+        }
     }
 }
 

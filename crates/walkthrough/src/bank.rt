@@ -21,11 +21,6 @@ use tree_office::TreeSeniority;
 
 type Estate = Withheld<MatrixOffice>;
 type Abbey = Withheld<HouseRules<ListOffice>>;
-pub type Five = Join<Join<Join<Join<One<ListOffice>, TreeOffice>, Estate>, Abbey>, MatrixOffice>;
-
-pub fn joined(records: ListOffice, parish: TreeOffice, estate: Estate, abbey: Abbey, chapel: MatrixOffice) -> Five {
-    Join::new(Join::new(Join::new(Join::new(One::new(records), parish), estate), abbey), chapel)
-}
 
 fn about_offices<B: Bank>(rt: &LibcRuntime, bank: &B) -> io::Result<()> {
     let count = bank.office_count();
@@ -88,8 +83,26 @@ fn about_codes<B: Bank>(rt: &LibcRuntime, bank: &B) -> io::Result<()> {
     role(rt, bank, 999999)
 }
 
-pub fn asked(rt: &LibcRuntime, bank: Five) -> io::Result<()> {
-    about_offices(rt, &bank)?;
-    about_seniority(rt, &bank)?;
-    about_codes(rt, &bank)
+fn asked<B: Bank>(rt: &LibcRuntime, bank: &B) -> io::Result<()> {
+    about_offices(rt, bank)?;
+    about_seniority(rt, bank)?;
+    about_codes(rt, bank)
+}
+
+// A long bank is joined a few offices at a time, so that each step is proved for whatever bank comes before.
+fn with_the_last_two<B: Bank + Drop>(rt: &LibcRuntime, bank: B, abbey: Abbey, chapel: MatrixOffice) -> io::Result<()> {
+    let bank = Join::new(Join::new(bank, abbey), chapel);
+    asked(rt, &bank)
+}
+
+pub fn joined_and_asked(
+    rt: &LibcRuntime,
+    records: ListOffice,
+    parish: TreeOffice,
+    estate: Estate,
+    abbey: Abbey,
+    chapel: MatrixOffice,
+) -> io::Result<()> {
+    let bank = Join::new(Join::new(One::new(records), parish), estate);
+    with_the_last_two(rt, bank, abbey, chapel)
 }

@@ -25,5 +25,5 @@ fn main(rt: LibcRuntime) -> io::Result<()> {
     let chapel = houses::chapel(&rt)?;
     println!(rt, "")?;
     println!(rt, "The five are joined to a bank, and the bank is asked")?;
-    bank::asked(&rt, bank::joined(office, parish, estate, abbey, chapel))
+    bank::joined_and_asked(&rt, office, parish, estate, abbey, chapel)
 }
