@@ -25,7 +25,11 @@ pub impl<O: Office> Bank for One<O> as OneBank {
     }
 
     fn role_count(&self, office: u8) -> u8 {
-        if office == 0 { self.office.role_count() } else { 0 }
+        if office == 0 {
+            self.office.role_count()
+        } else {
+            0
+        }
     }
 
     fn is_over(&self, office: u8, senior: u8, junior: u8) -> bool {
@@ -37,14 +41,26 @@ pub impl<O: Office> Bank for One<O> as OneBank {
     }
 
     fn set_count(&self, office: u8) -> u8 {
-        if office == 0 { self.office.set_count() } else { 0 }
+        if office == 0 {
+            self.office.set_count()
+        } else {
+            0
+        }
     }
 
     fn set_bound(&self, office: u8, set: u8) -> u8 {
-        if office == 0 { self.office.set_bound(set) } else { 0 }
+        if office == 0 {
+            self.office.set_bound(set)
+        } else {
+            0
+        }
     }
 
     fn set_member(&self, office: u8, set: u8, place: u8) -> Option<u8> {
-        if office == 0 { self.office.set_member(set, place) } else { None }
+        if office == 0 {
+            self.office.set_member(set, place)
+        } else {
+            None
+        }
     }
 }

@@ -22,7 +22,19 @@ fn full() -> ListOffice {
     }
     for set in 0..8u8 {
         let first = set * 8;
-        let _ = draft.exclude(&[first, first + 1, first + 2, first + 3, first + 4, first + 5, first + 6, first + 7], 8);
+        let _ = draft.exclude(
+            &[
+                first,
+                first + 1,
+                first + 2,
+                first + 3,
+                first + 4,
+                first + 5,
+                first + 6,
+                first + 7,
+            ],
+            8,
+        );
     }
     draft.seal()
 }
@@ -71,8 +83,14 @@ fn asked<B: Bank>(rt: &LibcRuntime, bank: &B) -> io::Result<()> {
         over = over.saturating_add(seniority(bank, office));
         stand = stand.saturating_add(members(bank, office));
     }
-    println!(rt, "of 65536 questions on seniority, {over} were answered yes")?;
-    println!(rt, "of 1024 questions on places of sets, {stand} found a role")
+    println!(
+        rt,
+        "of 65536 questions on seniority, {over} were answered yes"
+    )?;
+    println!(
+        rt,
+        "of 1024 questions on places of sets, {stand} found a role"
+    )
 }
 
 // A long bank is joined a few offices at a time, so that each step is proved for whatever bank comes before.
@@ -82,17 +100,32 @@ fn with_three_more<B: Bank + Drop>(rt: &LibcRuntime, bank: B) -> io::Result<()> 
 }
 
 fn with_six_more<B: Bank + Drop>(rt: &LibcRuntime, bank: B) -> io::Result<()> {
-    with_three_more(rt, Join::new(Join::new(Join::new(bank, full()), full()), full()))
+    with_three_more(
+        rt,
+        Join::new(Join::new(Join::new(bank, full()), full()), full()),
+    )
 }
 
 fn with_nine_more<B: Bank + Drop>(rt: &LibcRuntime, bank: B) -> io::Result<()> {
-    with_six_more(rt, Join::new(Join::new(Join::new(bank, full()), full()), full()))
+    with_six_more(
+        rt,
+        Join::new(Join::new(Join::new(bank, full()), full()), full()),
+    )
 }
 
 fn with_twelve_more<B: Bank + Drop>(rt: &LibcRuntime, bank: B) -> io::Result<()> {
-    with_nine_more(rt, Join::new(Join::new(Join::new(bank, full()), full()), full()))
+    with_nine_more(
+        rt,
+        Join::new(Join::new(Join::new(bank, full()), full()), full()),
+    )
 }
 
 fn main(rt: LibcRuntime) -> io::Result<()> {
-    with_twelve_more(&rt, Join::new(Join::new(Join::new(One::new(full()), full()), full()), full()))
+    with_twelve_more(
+        &rt,
+        Join::new(
+            Join::new(Join::new(One::new(full()), full()), full()),
+            full(),
+        ),
+    )
 }

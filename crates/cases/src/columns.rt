@@ -15,7 +15,11 @@ impl Columns {
     pub fn new(roles: u8) -> Columns
         ensures { λ r. ⌜ r .roles ≡ min roles 64 ⌝ }
     {
-        if roles < 64 { Columns { roles } } else { Columns { roles: 64 } }
+        if roles < 64 {
+            Columns { roles }
+        } else {
+            Columns { roles: 64 }
+        }
     }
 }
 

@@ -26,7 +26,12 @@ fn a_list_refuses_by_its_first_check() -> Result<(), Fail> {
     check_eq(draft.pair(2, 2), Err(Refusal::Circular))?;
     check_eq(draft.pair(3, 0), Err(Refusal::Circular))?;
     let office = draft.seal();
-    check(office.is_over(0, 3) && office.is_over(1, 1) && !office.is_over(3, 1) && !office.is_over(0, 2))
+    check(
+        office.is_over(0, 3)
+            && office.is_over(1, 1)
+            && !office.is_over(3, 1)
+            && !office.is_over(0, 2),
+    )
 }
 
 #[test]
@@ -53,7 +58,12 @@ fn a_tree_has_one_direct_senior() -> Result<(), Fail> {
     check_eq(draft.pair(3, 2), Err(Refusal::SeniorTaken))?;
     check_eq(draft.pair(2, 0), Err(Refusal::Circular))?;
     let office = draft.seal();
-    check(office.is_over(0, 2) && !office.is_over(2, 0) && !office.is_over(3, 2) && office.is_over(4, 4))
+    check(
+        office.is_over(0, 2)
+            && !office.is_over(2, 0)
+            && !office.is_over(3, 2)
+            && office.is_over(4, 4),
+    )
 }
 
 #[test]

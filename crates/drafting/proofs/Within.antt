@@ -48,37 +48,37 @@ same-test false false f g = refl
 pub within-alone : (n : ℕ) → n ≤ 64 → within n (itself-alone 64) ≡ itself-alone n
 within-alone n few = fun-ext (λ a. fun-ext (λ b. same-test (within n (itself-alone 64) a b) (itself-alone n a b) (there a b) (back a b)))
   where
-  there : (a b : ℕ) → within n (itself-alone 64) a b ≡ true → itself-alone n a b ≡ true
-  there a b h = let p = within-parts n (itself-alone 64) a b h in and-from (ltb a n) (eqb b a) (lt-ltb a n (p .0)) (and-parts (ltb a 64) (eqb b a) (p .2) .1)
+    there : (a b : ℕ) → within n (itself-alone 64) a b ≡ true → itself-alone n a b ≡ true
+    there a b h = let p = within-parts n (itself-alone 64) a b h in and-from (ltb a n) (eqb b a) (lt-ltb a n (p .0)) (and-parts (ltb a 64) (eqb b a) (p .2) .1)
 
-  back : (a b : ℕ) → itself-alone n a b ≡ true → within n (itself-alone 64) a b ≡ true
-  back a b h =
-      let p = and-parts (ltb a n) (eqb b a) h in
-      let la = ltb-true a n (p .0) in
-      let e = eqb-true b a (p .1) in
-      within-from n (itself-alone 64) a b la (omega arith) (and-from (ltb a 64) (eqb b a) (lt-ltb a 64 (omega arith)) (p .1))
+    back : (a b : ℕ) → itself-alone n a b ≡ true → within n (itself-alone 64) a b ≡ true
+    back a b h =
+        let p = and-parts (ltb a n) (eqb b a) h in
+        let la = ltb-true a n (p .0) in
+        let e = eqb-true b a (p .1) in
+        within-from n (itself-alone 64) a b la (omega arith) (and-from (ltb a 64) (eqb b a) (lt-ltb a 64 (omega arith)) (p .1))
 
 module _ (n : ℕ) (over : ℕ → ℕ → Bool) (s j : ℕ) (ls : s < n) (lj : j < n) where
   pub within-grown : within n (grown over s j) ≡ grown (within n over) s j
   within-grown = fun-ext (λ a. fun-ext (λ b. same-test (within n (grown over s j) a b) (grown (within n over) s j a b) (there a b) (back a b)))
     where
-    there : (a b : ℕ) → within n (grown over s j) a b ≡ true → grown (within n over) s j a b ≡ true
-    there a b h =
-        let p = within-parts n (grown over s j) a b h in
-        ⊎-elim
-        (λ t. or-left (within n over a b) (within n over a s && within n over j b) (within-from n over a b (p .0) (p .1) t))
-        (λ t. let q = and-parts (over a s) (over j b) t in or-right (within n over a b) (within n over a s && within n over j b) (and-from (within n over a s) (within n over j b) (within-from n over a s (p .0) ls (q .0)) (within-from n over j b lj (p .1) (q .1))))
-        (or-cases (over a b) (over a s && over j b) (p .2))
+      there : (a b : ℕ) → within n (grown over s j) a b ≡ true → grown (within n over) s j a b ≡ true
+      there a b h =
+          let p = within-parts n (grown over s j) a b h in
+          ⊎-elim
+          (λ t. or-left (within n over a b) (within n over a s && within n over j b) (within-from n over a b (p .0) (p .1) t))
+          (λ t. let q = and-parts (over a s) (over j b) t in or-right (within n over a b) (within n over a s && within n over j b) (and-from (within n over a s) (within n over j b) (within-from n over a s (p .0) ls (q .0)) (within-from n over j b lj (p .1) (q .1))))
+          (or-cases (over a b) (over a s && over j b) (p .2))
 
-    back : (a b : ℕ) → grown (within n over) s j a b ≡ true → within n (grown over s j) a b ≡ true
-    back a b h = ⊎-elim
-        (λ t. let p = within-parts n over a b t in within-from n (grown over s j) a b (p .0) (p .1) (or-left (over a b) (over a s && over j b) (p .2)))
-        (λ t.
-        let q = and-parts (within n over a s) (within n over j b) t in
-        let x = within-parts n over a s (q .0) in
-        let y = within-parts n over j b (q .1) in
-        within-from n (grown over s j) a b (x .0) (y .1) (or-right (over a b) (over a s && over j b) (and-from (over a s) (over j b) (x .2) (y .2))))
-        (or-cases (within n over a b) (within n over a s && within n over j b) h)
+      back : (a b : ℕ) → grown (within n over) s j a b ≡ true → within n (grown over s j) a b ≡ true
+      back a b h = ⊎-elim
+          (λ t. let p = within-parts n over a b t in within-from n (grown over s j) a b (p .0) (p .1) (or-left (over a b) (over a s && over j b) (p .2)))
+          (λ t.
+          let q = and-parts (within n over a s) (within n over j b) t in
+          let x = within-parts n over a s (q .0) in
+          let y = within-parts n over j b (q .1) in
+          within-from n (grown over s j) a b (x .0) (y .1) (or-right (over a b) (over a s && over j b) (and-from (over a s) (over j b) (x .2) (y .2))))
+          (or-cases (within n over a b) (within n over a s && within n over j b) h)
 
   pub within-after : (r : Answer) → within n (over-after r over s j) ≡ over-after r (within n over) s j
   within-after (Ok u) = within-grown

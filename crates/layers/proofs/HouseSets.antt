@@ -75,5 +75,5 @@ module _ (m : OfficeModel) (n : ℕ) (own : List SetModel) where
     marks = w .marks;
     eight = length-house (w .eight);
     shaped = all-append (Shaped (m .roles)) (m .sets) (fitting m n own) (w .shaped)
-      (F.fitted-shaped n (m .roles) (8 - length (m .sets)) own own-shaped);
+        (F.fitted-shaped n (m .roles) (8 - length (m .sets)) own own-shaped);
   }

@@ -36,8 +36,8 @@ only-start s v h = ⊎-elim
     (λ ne. absurd (false≢true (sym (getD-set-other (replicate 64 false) s v true false ne ∙ blank v) ∙ h)))
     (cases-eq v s)
   where
-  blank : (v : ℕ) → getD (replicate 64 false) v false ≡ false
-  blank v = ⊎-elim (λ l. getD-replicate 64 v false false l) (λ l. getD-past (replicate 64 false) v false (omega (arith, length-replicate 64 false))) (cases-lt v 64)
+    blank : (v : ℕ) → getD (replicate 64 false) v false ≡ false
+    blank v = ⊎-elim (λ l. getD-replicate 64 v false false l) (λ l. getD-past (replicate 64 false) v false (omega (arith, length-replicate 64 false))) (cases-lt v 64)
 
 module _ (l : PairList) where
   list-closes : Closes 64 (list-over l) (Steps (row-holds (l .juniors)))

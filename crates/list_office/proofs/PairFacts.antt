@@ -70,8 +70,8 @@ module _ (n : ℕ) where
       let Q : ℕ → ℕ → Type 0 = λ a b. P a b ⊎ ((a ≡ s) × (b ≡ j)) in
       let more : Closes n (grown over s j) Q = closes-more n over P Q s j cl inside (here .0) (here .1) (λ a b q. inl q) (inr (refl, refl)) (λ a b q. q) in
       let rest = closes-fold ps (grown over s j) Q more
-          (λ a b q. ⊎-elim (inside a b) (λ e. (subst (λ x. x < n) (sym (e .0)) (here .0), subst (λ x. x < n) (sym (e .1)) (here .1))) q)
-          (λ a b h. there a b (or-right (eqb a s && eqb b j) (has-pair ps a b) h)) in
+      (λ a b q. ⊎-elim (inside a b) (λ e. (subst (λ x. x < n) (sym (e .0)) (here .0), subst (λ x. x < n) (sym (e .1)) (here .1))) q)
+      (λ a b h. there a b (or-right (eqb a s && eqb b j) (has-pair ps a b) h)) in
       closes-same n (folded (λ o (q : Pair). grown o (q .senior) (q .junior)) (grown over s j) ps) (λ a b. Q a b ⊎ (has-pair ps a b ≡ true)) (λ a b. P a b ⊎ (has-pair (p ∷ ps) a b ≡ true))
       (λ a b h. ⊎-elim
       (λ q. ⊎-elim (λ x. inl x) (λ e. inr (or-left (eqb a s && eqb b j) (has-pair ps a b) (and-from (eqb a s) (eqb b j) (eq-eqb a s (e .0)) (eq-eqb b j (e .1))))) q)
@@ -101,13 +101,13 @@ rows-push rows ps p row ls lj was told a b = ⊎-elim
     (λ ne. row-set-other rows (p .senior) row a b ne ∙ was a b ∙ sym (has-push ps p a b ∙ ap (λ x. has-pair ps a b || (x && eqb b (p .junior))) (ne-eqb a (p .senior) ne) ∙ or-false (has-pair ps a b)))
     (cases-eq a (p .senior))
   where
-  s : ℕ
-  s = p .senior
+    s : ℕ
+    s = p .senior
 
-  here : row-holds (set rows (p .senior) row) (p .senior) b ≡ has-pair (ps ++ (p ∷ [])) (p .senior) b
-  here =
-      row-set-same rows (p .senior) row b ls
-      ∙ told b
-      ∙ ap₂ (λ x y. x || (eqb b (p .junior) && y)) (was (p .senior) b) (lt-ltb (p .junior) 64 lj)
-      ∙ ap (λ x. has-pair ps (p .senior) b || x) (and-true (eqb b (p .junior)))
-      ∙ sym (has-push ps p (p .senior) b ∙ ap (λ x. has-pair ps (p .senior) b || (x && eqb b (p .junior))) (eq-eqb (p .senior) (p .senior) refl))
+    here : row-holds (set rows (p .senior) row) (p .senior) b ≡ has-pair (ps ++ (p ∷ [])) (p .senior) b
+    here =
+        row-set-same rows (p .senior) row b ls
+        ∙ told b
+        ∙ ap₂ (λ x y. x || (eqb b (p .junior) && y)) (was (p .senior) b) (lt-ltb (p .junior) 64 lj)
+        ∙ ap (λ x. has-pair ps (p .senior) b || x) (and-true (eqb b (p .junior)))
+        ∙ sym (has-push ps p (p .senior) b ∙ ap (λ x. has-pair ps (p .senior) b || (x && eqb b (p .junior))) (eq-eqb (p .senior) (p .senior) refl))

@@ -10,4 +10,5 @@ pub use lists::PairListGraph;
 pub use lists::PairListSeniority;
 
 pub type ListDraft = Draft<PairList>;
+
 pub type ListOffice = Sealed<PairList>;

@@ -63,7 +63,14 @@ pub impl Seniority for PairList as PairListSeniority {
         let mut near = [0; 64];
         let mut home = [0; 64];
         let mut strip = [0; 64];
-        match best_chain(self, &starts, junior as usize, &mut near, &mut home, &mut strip) {
+        match best_chain(
+            self,
+            &starts,
+            junior as usize,
+            &mut near,
+            &mut home,
+            &mut strip,
+        ) {
             Outcome::Found { len: _, looked: _ } => true,
             Outcome::NoChain { looked: _ } => false,
             Outcome::Unfit => false,

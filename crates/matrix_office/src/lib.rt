@@ -8,4 +8,5 @@ pub use matrix::Matrix;
 pub use rows::MatrixSeniority;
 
 pub type MatrixDraft = Draft<Matrix>;
+
 pub type MatrixOffice = Sealed<Matrix>;

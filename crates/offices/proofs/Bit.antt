@@ -57,9 +57,9 @@ bit-one r i =
     ⊎-elim
     (λ (e : i ≡ r). ap (λ x. bit (2 ^ x) i) (sym e) ∙ itself i ∙ sym (eq-eqb i r e))
     (⊎-elim
-      (λ (l : i < r). let e : r ≡ suc (r - i - 1) + i = omega arith in
-        ap (λ x. bit (2 ^ x) i) e ∙ higher (r - i - 1) i ∙ sym (ne-eqb i r (omega arith)))
-      (λ (l : r < i). zero-past (2 ^ r) i (pow-below r i l) ∙ sym (ne-eqb i r (omega arith))))
+    (λ (l : i < r). let e : r ≡ suc (r - i - 1) + i = omega arith in
+    ap (λ x. bit (2 ^ x) i) e ∙ higher (r - i - 1) i ∙ sym (ne-eqb i r (omega arith)))
+    (λ (l : r < i). zero-past (2 ^ r) i (pow-below r i l) ∙ sym (ne-eqb i r (omega arith))))
     (cases-order i r)
 
 -- the test of the code

@@ -41,8 +41,8 @@ module _ (n : ℕ) (over : ℕ → ℕ → Bool) (o : Order n over) (s j : ℕ) 
         (parts over s j a b h);
   }
     where
-    no-way : over j s ≡ true → ⊥
-    no-way h = both-ways (over j s) never h
+      no-way : over j s ≡ true → ⊥
+      no-way h = both-ways (over j s) never h
 
   -- a pair that follows already
   pub grown-same : over s j ≡ true → grown over s j ≡ over
@@ -79,21 +79,20 @@ no-step n P none l (onward s rest) = absurd (none _ _ s)
 pub closes-none : (n : ℕ) (P : ℕ → ℕ → Type 0) → ((a b : ℕ) → P a b → ⊥) → Closes n (itself-alone n) P
 closes-none n P none a b = (
   (λ h. let p = told n a b h in (p .0, subst (λ x. Reaches P a x) (sym (p .1)) (reaches-itself a))),
-  (λ r. no-step n P none (r .0) (r .1 .1))
+  (λ r. no-step n P none (r .0) (r .1 .1)),
 )
 
 -- the same pairs
 pub closes-same : (n : ℕ) (over : ℕ → ℕ → Bool) (P Q : ℕ → ℕ → Type 0) → ((a b : ℕ) → P a b → Q a b) → ((a b : ℕ) → Q a b → P a b) → Closes n over P → Closes n over Q
 closes-same n over P Q to from h a b = (
   (λ t. let r = h a b .0 t in (r .0, (r .1 .0, chain-wider to (r .1 .1)))),
-  (λ r. h a b .1 (r .0, (r .1 .0, chain-wider from (r .1 .1))))
+  (λ r. h a b .1 (r .0, (r .1 .0, chain-wider from (r .1 .1)))),
 )
 
 -- Q has the pairs of P and the pair of s and j
 module _ (n : ℕ) (over : ℕ → ℕ → Bool) (P Q : ℕ → ℕ → Type 0) (s j : ℕ)
-  (closes : Closes n over P) (inside : (a b : ℕ) → P a b → (a < n) × (b < n)) (ls : s < n) (lj : j < n)
-  (kept : (a b : ℕ) → P a b → Q a b) (added : Q s j) (only : (a b : ℕ) → Q a b → P a b ⊎ ((a ≡ s) × (b ≡ j))) where
-
+    (closes : Closes n over P) (inside : (a b : ℕ) → P a b → (a < n) × (b < n)) (ls : s < n) (lj : j < n)
+    (kept : (a b : ℕ) → P a b → Q a b) (added : Q s j) (only : (a b : ℕ) → Q a b → P a b ⊎ ((a ≡ s) × (b ≡ j))) where
   wide : (a b : ℕ) → over a b ≡ true → Reaches Q a b
   wide a b h = let r = closes a b .0 h .1 in (r .0, chain-wider kept (r .1))
 

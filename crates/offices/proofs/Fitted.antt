@@ -24,7 +24,10 @@ module _ (n r room : ℕ) (own : List SetModel) where
 
   wider : n ≤ r → (s : SetModel) → Shaped n s → Shaped r s
   wider f s h = record {
-    least = h .least; most = h .most; low = h .low; high = h .high;
+    least = h .least;
+    most = h .most;
+    low = h .low;
+    high = h .high;
     exist = all-weaker (λ x. x < n) (λ x. x < r) (λ x l. omega arith) (s .members) (h .exist);
     differ = h .differ;
   }

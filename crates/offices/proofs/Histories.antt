@@ -54,10 +54,9 @@ share-not-set a ms t e = let z : _≡_ {A = ℕ} 0 1 = cc in omega arith
 
 -- an event that accepts no pair and no mark
 module _ (m : OfficeModel) (sets : List SetModel) (c : Call) (r : Answer) (n : ℕ) (h : List Event) (d : Drafted n h m)
-  (pairs : (s j : ℕ) → Accepted (record { call = c; answer = r } ∷ h) (pair s j) → Paired h s j)
-  (marks : (a : ℕ) → Accepted (record { call = c; answer = r } ∷ h) (share a) → Accepted h (share a))
-  (told : sets ≡ sets-told (record { call = c; answer = r } ∷ h)) where
-
+    (pairs : (s j : ℕ) → Accepted (record { call = c; answer = r } ∷ h) (pair s j) → Paired h s j)
+    (marks : (a : ℕ) → Accepted (record { call = c; answer = r } ∷ h) (share a) → Accepted h (share a))
+    (told : sets ≡ sets-told (record { call = c; answer = r } ∷ h)) where
   pub carried : Drafted n (record { call = c; answer = r } ∷ h) (record { roles = m .roles; over = m .over; shared = m .shared; sets = sets })
   carried = record {
     roles = d .roles;
@@ -113,13 +112,13 @@ keeps-share m role (Ok u) n h d =
       over = closes-same (m .roles) (m .over) (Paired h) (Paired new) (λ a b p. List·Memᴰ·tail p) pairs (d .over);
       shared = λ a. (
         (λ t. ⊎-elim
-        (λ x. List·Memᴰ·tail (d .shared a .0 x))
-        (λ x. List·Memᴰ·head (ap (λ (q : ℕ). let e : Event = record { call = share q; answer = Ok tt } in e) (eqb-true a role x)))
-        (or-cases (m .shared a) (eqb a role) t)),
+            (λ x. List·Memᴰ·tail (d .shared a .0 x))
+            (λ x. List·Memᴰ·head (ap (λ (q : ℕ). let e : Event = record { call = share q; answer = Ok tt } in e) (eqb-true a role x)))
+            (or-cases (m .shared a) (eqb a role) t)),
         (λ p. ⊎-elim
-        (λ e. or-right (m .shared a) (eqb a role) (eq-eqb a role e))
-        (λ k. or-left (m .shared a) (eqb a role) (d .shared a .1 k))
-        (mark-told role a h p))
+            (λ e. or-right (m .shared a) (eqb a role) (eq-eqb a role e))
+            (λ k. or-left (m .shared a) (eqb a role) (d .shared a .1 k))
+            (mark-told role a h p)),
       );
       sets = d .sets ∙ sym (append-nil (sets-told h));
     }

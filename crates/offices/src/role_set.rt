@@ -34,6 +34,7 @@ impl RoleSet {
             word: self.word | (1 << role),
         }
     }
+
     pub fn union(self, other: RoleSet) -> RoleSet
         ensures { λ r. ⌜ ((i : ℕ) → holds r i ≡ (holds self i || holds other i)) ⌝ }
     {

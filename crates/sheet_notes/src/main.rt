@@ -16,7 +16,10 @@ fn request(rt: &LibcRuntime, token: Token<'_>) -> io::Result<()> {
         Token::Relieve { card, code } => print!(rt, "relieve card {card} of role {code}"),
         Token::Handback { card } => print!(rt, "card {card} is handed back"),
         Token::Trust { truster, trusted } => print!(rt, "office {truster} trusts office {trusted}"),
-        Token::Distrust { truster, trusted } => print!(rt, "office {truster} trusts office {trusted} no more"),
+        Token::Distrust { truster, trusted } => print!(
+            rt,
+            "office {truster} trusts office {trusted} no more"
+        ),
         other => link_request(rt, other),
     }
 }

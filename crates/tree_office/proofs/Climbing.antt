@@ -41,9 +41,9 @@ module _ (n : ℕ) (up : ℕ → Option ℕ) (over : ℕ → ℕ → Bool) (o : 
       let self-b : over b b ≡ true = o .itself b (w .0) in
       tally-less (λ a. over a p) (λ a. over a b) n b (λ a la. pass a) (w .0)
       (⊎-elim
-        (λ (h : over b p ≡ true). absurd (w .2 (o .apart b p h (pass p (o .itself p (w .1))))))
-        (λ f. f)
-        (cases-bool (over b p)))
+      (λ (h : over b p ≡ true). absurd (w .2 (o .apart b p h (pass p (o .itself p (w .1))))))
+      (λ f. f)
+      (cases-bool (over b p)))
       self-b
 
   rank-pos : (b : ℕ) → b < n → 0 < rank b
@@ -63,13 +63,13 @@ module _ (n : ℕ) (up : ℕ → Option ℕ) (over : ℕ → ℕ → Bool) (o : 
 
   pub tree-is : n ≤ 64 → tree-over n up ≡ over
   tree-is few = fun-ext (λ a. fun-ext (λ b.
-    ⊎-elim
-    (λ (l : b < n). ap (λ x. x && climb 64 up a b) (lt-ltb b n l) ∙ climbs 64 a b l (omega (arith, rank-le b)))
-    (λ (l : n ≤ b). ap (λ x. x && climb 64 up a b) (le-ltb b n l) ∙ sym (outside a b l))
-    (cases-lt b n)))
+      ⊎-elim
+      (λ (l : b < n). ap (λ x. x && climb 64 up a b) (lt-ltb b n l) ∙ climbs 64 a b l (omega (arith, rank-le b)))
+      (λ (l : n ≤ b). ap (λ x. x && climb 64 up a b) (le-ltb b n l) ∙ sym (outside a b l))
+      (cases-lt b n)))
     where
-    outside : (a b : ℕ) → n ≤ b → over a b ≡ false
-    outside a b l = ⊎-elim (λ h. absurd (omega (arith, o .inside a b h .1))) (λ f. f) (cases-bool (over a b))
+      outside : (a b : ℕ) → n ≤ b → over a b ≡ false
+      outside a b l = ⊎-elim (λ h. absurd (omega (arith, o .inside a b h .1))) (λ f. f) (cases-bool (over a b))
 
 at-root : (x y : Bool) → ((x || false) || (y && true)) ≡ (x || (y || (y && false)))
 at-root true y = refl
@@ -98,25 +98,25 @@ module _ (n : ℕ) (up up′ : ℕ → Option ℕ) (over : ℕ → ℕ → Bool)
   step-there : (a b : ℕ) → b < n → (b ≡ j → ⊥) → (u : Option ℕ) → up b ≡ u → grown over s j a b ≡ (eqb a b || on u (grown over s j a))
   step-there a b l d None e =
       ap₂ (λ x y. x || (over a s && y)) (t .step a b l ∙ ap (λ u. eqb a b || on u (over a)) e)
-        (t .step j b l ∙ ap₂ (λ x u. x || on u (over j)) (ne-eqb j b (λ q. d (sym q))) e)
+      (t .step j b l ∙ ap₂ (λ x u. x || on u (over j)) (ne-eqb j b (λ q. d (sym q))) e)
       ∙ apart (eqb a b) (over a s)
   step-there a b l d (Some p) e =
       ap₂ (λ x y. x || (over a s && y)) (t .step a b l ∙ ap (λ u. eqb a b || on u (over a)) e)
-        (t .step j b l ∙ ap₂ (λ x u. x || on u (over j)) (ne-eqb j b (λ q. d (sym q))) e)
+      (t .step j b l ∙ ap₂ (λ x u. x || on u (over j)) (ne-eqb j b (λ q. d (sym q))) e)
       ∙ under (eqb a b) (over a p) (over a s) (over j p)
 
   pub tree-grown : TreeLaw n up′ (grown over s j)
   tree-grown = record {
     step = λ a b l.
-      ⊎-elim
-      (λ (e : b ≡ j). subst (λ x. grown over s j a x ≡ (eqb a x || on (up′ x) (grown over s j a))) (sym e) (step-here a))
-      (λ (d : b ≡ j → ⊥). step-there a b l d (up b) refl ∙ ap (λ u. eqb a b || on u (grown over s j a)) (sym (there b d)))
-      (cases-eq b j);
+        ⊎-elim
+        (λ (e : b ≡ j). subst (λ x. grown over s j a x ≡ (eqb a x || on (up′ x) (grown over s j a))) (sym e) (step-here a))
+        (λ (d : b ≡ j → ⊥). step-there a b l d (up b) refl ∙ ap (λ u. eqb a b || on u (grown over s j a)) (sym (there b d)))
+        (cases-eq b j);
     placed = λ b p e.
-      ⊎-elim
-      (λ (q : b ≡ j). let z : p ≡ s = cc in (omega arith, omega arith, λ w. ne (sym q ∙ w ∙ z)))
-      (λ (d : b ≡ j → ⊥). t .placed b p (sym (there b d) ∙ e))
-      (cases-eq b j);
+        ⊎-elim
+        (λ (q : b ≡ j). let z : p ≡ s = cc in (omega arith, omega arith, λ w. ne (sym q ∙ w ∙ z)))
+        (λ (d : b ≡ j → ⊥). t .placed b p (sym (there b d) ∙ e))
+        (cases-eq b j);
   }
 
 -- the tree with one direct senior more
@@ -155,8 +155,8 @@ tree-prop n up over p q = λ i. record {
   placed = same (p .placed) (q .placed) (search props depth 9) i;
 }
   where
-  same : {A : Type 0} (x y : A) → IsProp A → x ≡ y
-  same x y h = h x y
+    same : {A : Type 0} (x y : A) → IsProp A → x ≡ y
+    same x y h = h x y
 
 pub grows-from : (n : ℕ) (up : ℕ → Option ℕ) → ∥ Grows n up ∥₁ → Grows n up
 grows-from n up t = ∥∥₁-elim t (λ p q. λ i. (order-prop n (tree-over n up) (p .0) (q .0) i, tree-prop n up (tree-over n up) (p .1) (q .1) i)) (λ w. w)
@@ -173,11 +173,11 @@ module _ (n : ℕ) (up : ℕ → Option ℕ) (bare : (b : ℕ) → up b ≡ None
     placed = λ b p e. let f = bare b in let z : _≡_ {A = ℕ} 0 1 = cc in absurd (omega arith);
   }
     where
-    alike : (a b : ℕ) → b < n → itself-alone n a b ≡ eqb a b
-    alike a b l = ⊎-elim
-        (λ (e : a ≡ b). let la : a < n = omega arith in and-from (ltb a n) (eqb b a) (lt-ltb a n la) (eq-eqb b a (sym e)) ∙ sym (eq-eqb a b e))
-        (λ (d : a ≡ b → ⊥). and-right (ltb a n) (eqb b a) (ne-eqb b a (λ q. d (sym q))) ∙ sym (ne-eqb a b d))
-        (cases-eq a b)
+      alike : (a b : ℕ) → b < n → itself-alone n a b ≡ eqb a b
+      alike a b l = ⊎-elim
+          (λ (e : a ≡ b). let la : a < n = omega arith in and-from (ltb a n) (eqb b a) (lt-ltb a n la) (eq-eqb b a (sym e)) ∙ sym (eq-eqb a b e))
+          (λ (d : a ≡ b → ⊥). and-right (ltb a n) (eqb b a) (ne-eqb b a (λ q. d (sym q))) ∙ sym (ne-eqb a b d))
+          (cases-eq a b)
 
   pub bare-is : n ≤ 64 → tree-over n up ≡ itself-alone n
   bare-is few = tree-is n up (itself-alone n) (alone-order n) bare-law few

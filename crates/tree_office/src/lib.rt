@@ -8,4 +8,5 @@ pub use tree::Tree;
 pub use trees::TreeSeniority;
 
 pub type TreeDraft = Draft<Tree>;
+
 pub type TreeOffice = Sealed<Tree>;

@@ -20,6 +20,7 @@ use tree_office::TreeOffice;
 use tree_office::TreeSeniority;
 
 type Estate = Withheld<MatrixOffice>;
+
 type Abbey = Withheld<HouseRules<ListOffice>>;
 
 fn about_offices<B: Bank>(rt: &LibcRuntime, bank: &B) -> io::Result<()> {
@@ -35,7 +36,10 @@ fn about_offices<B: Bank>(rt: &LibcRuntime, bank: &B) -> io::Result<()> {
 
 fn over<B: Bank>(rt: &LibcRuntime, bank: &B, office: u8, senior: u8, junior: u8) -> io::Result<()> {
     let answer = yes_or_no(bank.is_over(office, senior, junior));
-    println!(rt, "  in office {office}, is {senior} over {junior}? {answer}")
+    println!(
+        rt,
+        "  in office {office}, is {senior} over {junior}? {answer}"
+    )
 }
 
 fn shared<B: Bank>(rt: &LibcRuntime, bank: &B, office: u8, role: u8) -> io::Result<()> {
@@ -57,7 +61,10 @@ fn about_seniority<B: Bank>(rt: &LibcRuntime, bank: &B) -> io::Result<()> {
     println!(rt, "  in office 3, what is the bound of set 1? {bound}")?;
     match bank.set_member(3, 1, 1) {
         Some(role) => println!(rt, "  in office 3, what stands at place 1 of set 1? {role}"),
-        None => println!(rt, "  in office 3, what stands at place 1 of set 1? nothing"),
+        None => println!(
+            rt,
+            "  in office 3, what stands at place 1 of set 1? nothing"
+        ),
     }
 }
 
@@ -90,7 +97,12 @@ fn asked<B: Bank>(rt: &LibcRuntime, bank: &B) -> io::Result<()> {
 }
 
 // A long bank is joined a few offices at a time, so that each step is proved for whatever bank comes before.
-fn with_the_last_two<B: Bank + Drop>(rt: &LibcRuntime, bank: B, abbey: Abbey, chapel: MatrixOffice) -> io::Result<()> {
+fn with_the_last_two<B: Bank + Drop>(
+    rt: &LibcRuntime,
+    bank: B,
+    abbey: Abbey,
+    chapel: MatrixOffice,
+) -> io::Result<()> {
     let bank = Join::new(Join::new(bank, abbey), chapel);
     asked(rt, &bank)
 }

@@ -26,20 +26,51 @@ fn sharing(rt: &LibcRuntime, draft: &mut ListDraft) -> io::Result<()> {
 
 fn exclusion(rt: &LibcRuntime, draft: &mut ListDraft) -> io::Result<()> {
     let kept = "nobody may reach that many of them";
-    note(rt, "exclude key, check; bound 2", draft.exclude(&[1, 2], 2), kept)?;
-    note(rt, "exclude check, release, key; bound 3", draft.exclude(&[2, 3, 1], 3), kept)?;
-    note(rt, "exclude key, key; bound 2", draft.exclude(&[1, 1], 2), kept)?;
-    note(rt, "exclude key, check; bound 3", draft.exclude(&[1, 2], 3), kept)?;
-    note(rt, "exclude key, role 6; bound 2", draft.exclude(&[1, 6], 2), kept)
+    note(
+        rt,
+        "exclude key, check; bound 2",
+        draft.exclude(&[1, 2], 2),
+        kept,
+    )?;
+    note(
+        rt,
+        "exclude check, release, key; bound 3",
+        draft.exclude(&[2, 3, 1], 3),
+        kept,
+    )?;
+    note(
+        rt,
+        "exclude key, key; bound 2",
+        draft.exclude(&[1, 1], 2),
+        kept,
+    )?;
+    note(
+        rt,
+        "exclude key, check; bound 3",
+        draft.exclude(&[1, 2], 3),
+        kept,
+    )?;
+    note(
+        rt,
+        "exclude key, role 6; bound 2",
+        draft.exclude(&[1, 6], 2),
+        kept,
+    )
 }
 
 // Drafts the office of a records house, and seals it.
 pub fn records_house(rt: &LibcRuntime) -> io::Result<ListOffice> {
-    println!(rt, "  a draft with 5 roles: archivist, key, check, release, read")?;
+    println!(
+        rt,
+        "  a draft with 5 roles: archivist, key, check, release, read"
+    )?;
     let mut draft = ListDraft::new(5);
     seniority(rt, &mut draft)?;
     sharing(rt, &mut draft)?;
     exclusion(rt, &mut draft)?;
-    println!(rt, "  the draft is sealed: it takes no pair, mark or set any more")?;
+    println!(
+        rt,
+        "  the draft is sealed: it takes no pair, mark or set any more"
+    )?;
     Ok(draft.seal())
 }

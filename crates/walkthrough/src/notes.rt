@@ -12,12 +12,18 @@ fn reason(refusal: Refusal) -> &'static str {
         Refusal::SetsFull => "there are 8 sets already",
         Refusal::WrongLength => "the line has another length",
         Refusal::UnknownWord => "the line begins with no request's word",
-        Refusal::BadField => "a number, a shelf mark or an unused field is not written as it should be",
+        Refusal::BadField =>
+            "a number, a shelf mark or an unused field is not written as it should be",
     }
 }
 
 // Notes what was asked of a draft and what it answered; `meaning` says what that does where it is accepted.
-pub fn note(rt: &LibcRuntime, asked: &str, answer: Result<(), Refusal>, meaning: &str) -> io::Result<()> {
+pub fn note(
+    rt: &LibcRuntime,
+    asked: &str,
+    answer: Result<(), Refusal>,
+    meaning: &str,
+) -> io::Result<()> {
     match answer {
         Ok(()) => println!(rt, "  {asked}: accepted; {meaning}"),
         Err(refusal) => {

@@ -66,12 +66,25 @@ fn chain(rt: &LibcRuntime, office: &ListOffice, senior: u8, junior: u8) -> io::R
     let mut strip = [0; 64];
     let first = role_name(u16::from(senior));
     let second = role_name(u16::from(junior));
-    match best_chain(office, &starts, junior as usize, &mut near, &mut home, &mut strip) {
+    match best_chain(
+        office,
+        &starts,
+        junior as usize,
+        &mut near,
+        &mut home,
+        &mut strip,
+    ) {
         Outcome::Found { len, looked } => {
-            print!(rt, "  from {first} to {second}: a chain of length {len}, after a look at {looked}:")?;
+            print!(
+                rt,
+                "  from {first} to {second}: a chain of length {len}, after a look at {looked}:"
+            )?;
             written(rt, &strip, len)
         }
-        Outcome::NoChain { looked } => println!(rt, "  from {first} to {second}: no chain, after a look at {looked}"),
+        Outcome::NoChain { looked } => println!(
+            rt,
+            "  from {first} to {second}: no chain, after a look at {looked}"
+        ),
         Outcome::Unfit => println!(rt, "  from {first} to {second}: there is no such role"),
     }
 }

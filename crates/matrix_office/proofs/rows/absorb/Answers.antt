@@ -12,5 +12,5 @@ returns c a b =
     ⊎-elim
     (c .loop-row .inv .0 a b)
     (λ (h : c .loop-row .row-index ≤ a). ap (λ s. holds s b) (c .loop-row .inv .1 a h)
-      ∙ joined-past (c .args .rows .now) (c .args .senior) (holds (c .args .below)) a b (omega arith))
+    ∙ joined-past (c .args .rows .now) (c .args .senior) (holds (c .args .below)) a b (omega arith))
     (cases-lt a (c .loop-row .row-index))

@@ -19,11 +19,12 @@ pub loop-role-again : need.loop-role-again
 loop-role-again c =
     let rows = c .loop-role .rows in
     let i = c .loop-role .role in
-    let v = c .with .result in
-    (length-set rows i v ∙ c .loop-role .inv .0,
-     λ a b h. ⊎-elim
-       (λ (e : a ≡ i). subst (λ x. row-holds (set rows i v) x b ≡ eqb b x) (sym e)
-         (row-set-same rows i v b (omega arith) ∙ c .with .ensures b ∙ ap₂ (λ x y. x || (eqb b i && y)) (c .empty .ensures b) (lt-ltb i 64 (omega arith)) ∙ and-true (eqb b i)))
-       (λ (n : a ≡ i → ⊥). row-set-other rows i v a b n ∙ c .loop-role .inv .1 a b (omega arith))
-       (cases-eq a i),
-     λ a b h. let n : a ≢ i = omega arith in row-set-other rows i v a b n ∙ c .loop-role .inv .2 a b (omega arith))
+    let v = c .with .result in (
+      length-set rows i v ∙ c .loop-role .inv .0,
+      λ a b h. ⊎-elim
+          (λ (e : a ≡ i). subst (λ x. row-holds (set rows i v) x b ≡ eqb b x) (sym e)
+          (row-set-same rows i v b (omega arith) ∙ c .with .ensures b ∙ ap₂ (λ x y. x || (eqb b i && y)) (c .empty .ensures b) (lt-ltb i 64 (omega arith)) ∙ and-true (eqb b i)))
+          (λ (n : a ≡ i → ⊥). row-set-other rows i v a b n ∙ c .loop-role .inv .1 a b (omega arith))
+          (cases-eq a i),
+      λ a b h. let n : a ≢ i = omega arith in row-set-other rows i v a b n ∙ c .loop-role .inv .2 a b (omega arith),
+    )

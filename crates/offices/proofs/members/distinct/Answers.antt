@@ -11,7 +11,7 @@ pub returns-then-not-absent : need.returns-then-not-absent
 returns-then-not-absent c =
     let xs = c .args .members .now in let i = c .loop-i .i in
     sym (c .loop-i .inv ∙ at-drop-more all-differ xs i 0 (omega arith)
-      ∙ ap (λ b. b && all-differ (drop (i + 1) xs)) (ap (missing (getD xs i 0)) (sym (take-rest xs (i + 1))) ∙ sym (c .if-not-absent .ensures tt)))
+    ∙ ap (λ b. b && all-differ (drop (i + 1) xs)) (ap (missing (getD xs i 0)) (sym (take-rest xs (i + 1))) ∙ sym (c .if-not-absent .ensures tt)))
 
 pub loop-i-again : need.loop-i-again
 loop-i-again c =

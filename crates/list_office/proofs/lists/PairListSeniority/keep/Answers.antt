@@ -26,10 +26,19 @@ ghost-self c =
     let rows = l .rows in
     let at : l .count < length (l .pairs) = omega arith in
     let more : kept-pairs (l .count + 1) (set (l .pairs) (l .count) p) ≡ pairs-in l ++ (p ∷ []) = take-more-set (l .pairs) (l .count) p at in
-    let juniors = set (l .juniors) (c .args .senior) (c .with-below .result) in
-    (omega arith, (length-set (l .pairs) (l .count) p ∙ l .room, (length-set (l .juniors) (c .args .senior) (c .with-below .result) ∙ l .rows,
-      (∣ subst (Rows (row-holds juniors)) (sym more) (rows-push (l .juniors) (pairs-in l) p (c .with-below .result) (omega arith) (omega arith) (rows-from (row-holds (l .juniors)) (pairs-in l) (l .steps)) (c .with-below .ensures)) ∣₁,
-      (∣ subst (Acyclic 64) (sym more) (acyclic-push 64 (pairs-in l) p (acyclic-from 64 (pairs-in l) (l .order)) (omega arith) (omega arith) (sym (c .if-is-over .ensures tt))) ∣₁, tt)))))
+    let juniors = set (l .juniors) (c .args .senior) (c .with-below .result) in (
+      omega arith,
+      (
+        length-set (l .pairs) (l .count) p ∙ l .room,
+        (
+          length-set (l .juniors) (c .args .senior) (c .with-below .result) ∙ l .rows,
+          (
+            ∣ subst (Rows (row-holds juniors)) (sym more) (rows-push (l .juniors) (pairs-in l) p (c .with-below .result) (omega arith) (omega arith) (rows-from (row-holds (l .juniors)) (pairs-in l) (l .steps)) (c .with-below .ensures)) ∣₁,
+            (∣ subst (Acyclic 64) (sym more) (acyclic-push 64 (pairs-in l) p (acyclic-from 64 (pairs-in l) (l .order)) (omega arith) (omega arith) (sym (c .if-is-over .ensures tt))) ∣₁, tt),
+          ),
+        ),
+      ),
+    )
 
 pub returns : need.returns
 returns c =

@@ -13,8 +13,8 @@ use Rattle.offices.proofs.role_set.RoleSet.with.Needs as need
 pub returns-then-role-ge64 : need.returns-then-role-ge64
 returns-then-role-ge64 c i =
     sym (ap (λ x. bit (c .args .self .word) i || (eqb i (c .args .role) && x)) (le-ltb (c .args .role) 64 (omega arith))
-      ∙ ap (λ x. bit (c .args .self .word) i || x) (and-false (eqb i (c .args .role)))
-      ∙ or-false (bit (c .args .self .word) i))
+    ∙ ap (λ x. bit (c .args .self .word) i || x) (and-false (eqb i (c .args .role)))
+    ∙ or-false (bit (c .args .self .word) i))
 
 pub returns : need.returns
 returns c i =

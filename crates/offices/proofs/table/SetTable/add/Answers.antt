@@ -39,10 +39,20 @@ exclusive-set-set-requires c κs = good-few (c .args .members .now) (c .args .bo
 pub ghost-self : need.ghost-self
 ghost-self c =
     let d = c .args .self .now in
-    let new = subst (Shaped (d .roles)) (sym (c .exclusive-set-set .ensures)) (shaped-good (d .roles) (c .args .members .now) (c .args .bound) (sym (c .if-not-well-formed .ensures tt)) (sym (c .if-not-exist .ensures tt))) in
-    (d .few, (search needs, (search needs,
-      (∣ subst (All (Shaped (d .roles))) (sym (sets-push (d .count) (d .sets) (c .exclusive-set-set .result) (omega arith)))
-          (all-push (Shaped (d .roles)) (sets-of (d .count) (d .sets)) (set-model (c .exclusive-set-set .result)) (shaped-from (d .roles) (d .count) (d .sets) (d .shaped)) new) ∣₁, tt))))
+    let new = subst (Shaped (d .roles)) (sym (c .exclusive-set-set .ensures)) (shaped-good (d .roles) (c .args .members .now) (c .args .bound) (sym (c .if-not-well-formed .ensures tt)) (sym (c .if-not-exist .ensures tt))) in (
+      d .few,
+      (
+        search needs,
+        (
+          search needs,
+          (
+            ∣ subst (All (Shaped (d .roles))) (sym (sets-push (d .count) (d .sets) (c .exclusive-set-set .result) (omega arith)))
+                (all-push (Shaped (d .roles)) (sets-of (d .count) (d .sets)) (set-model (c .exclusive-set-set .result)) (shaped-from (d .roles) (d .count) (d .sets) (d .shaped)) new) ∣₁,
+            tt,
+          ),
+        ),
+      ),
+    )
 
 pub returns : need.returns
 returns c =

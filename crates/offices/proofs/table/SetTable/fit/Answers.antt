@@ -12,10 +12,20 @@ use Rattle.offices.proofs.table.SetTable.fit.Needs as need
 pub ghost-self : need.ghost-self
 ghost-self c =
     let d = c .args .self .now in
-    let roles = c .at-most-64-roles .result in
-    (omega (arith, c .at-most-64-roles .ensures), (c .keeping-keep .ensures .few, (d .room,
-      (∣ subst (All (Shaped roles)) (sym (c .keeping-keep .ensures .sets))
-          (fitted-shaped (d .roles) roles (c .args .room) (table-sets d) (shaped-from (d .roles) (d .count) (d .sets) (d .shaped))) ∣₁, tt))))
+    let roles = c .at-most-64-roles .result in (
+      omega (arith, c .at-most-64-roles .ensures),
+      (
+        c .keeping-keep .ensures .few,
+        (
+          d .room,
+          (
+            ∣ subst (All (Shaped roles)) (sym (c .keeping-keep .ensures .sets))
+                (fitted-shaped (d .roles) roles (c .args .room) (table-sets d) (shaped-from (d .roles) (d .count) (d .sets) (d .shaped))) ∣₁,
+            tt,
+          ),
+        ),
+      ),
+    )
 
 pub returns : need.returns
 returns c =

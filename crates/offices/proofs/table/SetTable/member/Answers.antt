@@ -12,10 +12,10 @@ pub returns-then-place-row : need.returns-then-place-row
 returns-then-place-row c =
     let s = getD (c .args .self .now .sets) (c .args .set) (c .index-self-set .result) in
     sym (ap (λ o. member-of o (c .args .place)) (nth-sets (c .args .self .now .count) (c .args .self .now .sets) (c .args .set) (c .index-self-set .result) (omega arith) (omega arith))
-      ∙ nth-front (s .size) (s .members) (c .args .place) (omega (arith, s .small, s .room)) (omega arith))
+    ∙ nth-front (s .size) (s .members) (c .args .place) (omega (arith, s .small, s .room)) (omega arith))
 
 pub returns-else-place-row : need.returns-else-place-row
 returns-else-place-row c =
     let s = getD (c .args .self .now .sets) (c .args .set) (c .index-self-set .result) in
     sym (ap (λ o. member-of o (c .args .place)) (nth-sets (c .args .self .now .count) (c .args .self .now .sets) (c .args .set) (c .index-self-set .result) (omega arith) (omega arith))
-      ∙ nth-front-past (s .size) (s .members) (c .args .place) (omega (arith, s .small, s .room)) (omega arith))
+    ∙ nth-front-past (s .size) (s .members) (c .args .place) (omega (arith, s .small, s .room)) (omega arith))
