@@ -1,4 +1,5 @@
-ghost use Rattle.offices.specs.Bases.{base-roles, office-with};
+ghost use Rattle.drafting.specs.Models.{sealed-as};
+ghost use Rattle.offices.specs.Bases.{base-roles};
 ghost use Rattle.offices.specs.Order.{within};
 use crate::sealed::Sealed;
 use crate::seniority::Seniority;
@@ -6,7 +7,7 @@ use offices::Office;
 use search::Graph;
 
 pub impl<S: Seniority> Office for Sealed<S> as SealedOffice {
-    ghost model = { λ x. office-with (x .base) (within (base-roles (x .base)) (S·Seniority .over (x .seniority))) };
+    ghost model = { sealed-as (S·Seniority .over) };
 
     fn role_count(&self) -> u8 {
         self.base.role_count()

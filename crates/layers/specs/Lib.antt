@@ -1,3 +1,4 @@
 pub mod Answering
 pub mod Housed
 pub mod Layers
+pub mod Shown

@@ -1,6 +1,6 @@
 ghost use mathlib.Core.Path.{_≡_};
 ghost use Rattle.layers.specs.Answering.{Answers};
-ghost use Rattle.layers.specs.Housed.{housed};
+ghost use Rattle.layers.specs.Shown.{housed-as};
 ghost use Rattle.offices.specs.Drafting.{set-answer, after-set};
 use answers::Refusal;
 use offices::Office;
@@ -31,7 +31,7 @@ pub(crate) enum Answerer {
 impl<O: Office> HouseDraft<O> {
     // No house rule yet.
     pub fn new(below: O) -> HouseDraft<O>
-        ensures model { λ r. ⌜ housed (O·Office .model (r .layer .below)) (r .layer .own) ≡ O·Office .model below ⌝ }
+        ensures model { λ r. ⌜ housed-as (O·Office .model) (r .layer) ≡ O·Office .model below ⌝ }
         ensures below { λ r. ⌜ r .layer .below ≡ below ⌝ }
     {
         let own = SetTable::new(below.role_count());
@@ -42,8 +42,8 @@ impl<O: Office> HouseDraft<O> {
 
     // Adds an exclusive set; those below count toward the 8.
     pub fn exclude(&mut self, members: &[u8], bound: u8) -> Result<(), Refusal>
-        ensures answer { λ r. ⌜ r ≡ set-answer (housed (O·Office .model (now (self .entry) .layer .below)) (now (self .entry) .layer .own) .roles) (housed (O·Office .model (now (self .entry) .layer .below)) (now (self .entry) .layer .own) .sets) (now (members .entry)) bound ⌝ }
-        ensures after { λ r. ⌜ housed (O·Office .model (now (self .exit) .layer .below)) (now (self .exit) .layer .own) ≡ after-set r (housed (O·Office .model (now (self .entry) .layer .below)) (now (self .entry) .layer .own)) (now (members .entry)) bound ⌝ }
+        ensures answer { λ r. ⌜ r ≡ set-answer (housed-as (O·Office .model) (now (self .entry) .layer) .roles) (housed-as (O·Office .model) (now (self .entry) .layer) .sets) (now (members .entry)) bound ⌝ }
+        ensures after { λ r. ⌜ housed-as (O·Office .model) (now (self .exit) .layer) ≡ after-set r (housed-as (O·Office .model) (now (self .entry) .layer)) (now (members .entry)) bound ⌝ }
         ensures below { λ r. ⌜ now (self .exit) .layer .below ≡ now (self .entry) .layer .below ⌝ }
     {
         let roles = self.layer.below.role_count();
@@ -82,7 +82,7 @@ impl<O: Office> HouseRules<O> {
 }
 
 pub impl<O: Office> Office for HouseRules<O> as HouseRulesOffice {
-    ghost model = { λ x. housed (O·Office .model (x .below)) (x .own) };
+    ghost model = { housed-as (O·Office .model) };
 
     fn role_count(&self) -> u8 {
         self.below.role_count()

@@ -1,7 +1,7 @@
 ghost use mathlib.Core.Path.{_≡_};
-ghost use Rattle.layers.specs.Layers.{withheld-model, after-withhold};
+ghost use Rattle.layers.specs.Layers.{after-withhold};
+ghost use Rattle.layers.specs.Shown.{withheld-as};
 ghost use Rattle.offices.specs.Drafting.{mark-answer};
-ghost use Rattle.offices.specs.Members.{holds};
 use answers::Refusal;
 use offices::Office;
 use offices::RoleSet;
@@ -22,7 +22,7 @@ pub struct WithheldDraft<O: Office> {
 impl<O: Office> WithheldDraft<O> {
     // Nothing is withheld yet.
     pub fn new(below: O) -> WithheldDraft<O>
-        ensures model { λ r. ⌜ withheld-model (O·Office .model (r .layer .below)) (holds (r .layer .withheld)) ≡ O·Office .model below ⌝ }
+        ensures model { λ r. ⌜ withheld-as (O·Office .model) (r .layer) ≡ O·Office .model below ⌝ }
         ensures below { λ r. ⌜ r .layer .below ≡ below ⌝ }
     {
         WithheldDraft {
@@ -36,7 +36,7 @@ impl<O: Office> WithheldDraft<O> {
     // Takes the shared mark off a role.
     pub fn withhold(&mut self, role: u8) -> Result<(), Refusal>
         ensures answer { λ r. ⌜ r ≡ mark-answer (O·Office .model (now (self .entry) .layer .below) .roles) role ⌝ }
-        ensures after { λ r. ⌜ withheld-model (O·Office .model (now (self .exit) .layer .below)) (holds (now (self .exit) .layer .withheld)) ≡ after-withhold r (withheld-model (O·Office .model (now (self .entry) .layer .below)) (holds (now (self .entry) .layer .withheld))) role ⌝ }
+        ensures after { λ r. ⌜ withheld-as (O·Office .model) (now (self .exit) .layer) ≡ after-withhold r (withheld-as (O·Office .model) (now (self .entry) .layer)) role ⌝ }
         ensures below { λ r. ⌜ now (self .exit) .layer .below ≡ now (self .entry) .layer .below ⌝ }
     {
         if role >= self.layer.below.role_count() {
@@ -56,7 +56,7 @@ impl<O: Office> WithheldDraft<O> {
 }
 
 pub impl<O: Office> Office for Withheld<O> as WithheldOffice {
-    ghost model = { λ x. withheld-model (O·Office .model (x .below)) (holds (x .withheld)) };
+    ghost model = { withheld-as (O·Office .model) };
 
     fn role_count(&self) -> u8 {
         self.below.role_count()
