@@ -10,10 +10,8 @@ fn reason(refusal: Refusal) -> &'static str {
         Refusal::SeniorTaken => "the junior has a direct senior already",
         Refusal::BadSet => "a set has 2 to 8 different roles and a bound from 2 to its size",
         Refusal::SetsFull => "there are 8 sets already",
-        Refusal::WrongLength => "the line has another length",
-        Refusal::UnknownWord => "the line begins with no request's word",
-        Refusal::BadField =>
-            "a number, a shelf mark or an unused field is not written as it should be",
+        // what is no refusal of a draft does not come up here
+        _ => "it is refused",
     }
 }
 
