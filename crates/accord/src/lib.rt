@@ -1,4 +1,6 @@
 // The register's tables and a history of requests: what it means that they agree, and what keeps them in accord.
+#![tactic(auto)]
+
 ghost use Rattle.accord.specs.Accord.{EmptyAgrees, SettledAgrees, AgreeProper};
 
 // Tables and history begin in accord, and each request that is settled by the tables keeps it.

@@ -1,4 +1,6 @@
 // Why a request is refused, and the number by which each refusal is known.
+#![tactic(auto)]
+
 ghost use Rattle.std.specs.Prelude.{◌≡◌};
 ghost use Rattle.answers.specs.Numbers.{number_of};
 

@@ -1,4 +1,6 @@
 // Banks: sealed offices joined one after another.
+#![tactic(auto)]
+
 pub mod bank;
 pub mod codes;
 pub mod join;

@@ -1,4 +1,6 @@
 // Worked examples: their expected values follow from the rules, by hand.
+#![tactic(auto)]
+
 #[cfg(test)]
 mod banking;
 #[cfg(test)]

@@ -1,4 +1,6 @@
 // The answers of a bank's offices, read once into plain tables.
+#![tactic(auto)]
+
 pub mod directories;
 pub mod directory;
 pub mod entries;

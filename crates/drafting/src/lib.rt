@@ -1,4 +1,6 @@
 // Drafting an office of any kind, and the sealed office that comes of it.
+#![tactic(auto)]
+
 pub mod draft;
 pub mod drafts;
 pub mod offices;

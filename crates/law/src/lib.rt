@@ -1,5 +1,7 @@
 // The register's law: what a history of requests says, which answer it calls for, and what follows. Nothing runs here:
 // each function carries theorems, and the register is proved against the same definitions.
+#![tactic(auto)]
+
 ghost use Rattle.law.specs.Promises.{RightIsSound, OneOutcome, SomeAnswer, SixteenExactly, BoxSixteenExactly, BoxInAnyOrder, OnlyAcceptedChange, MoreNeverMends, MoreSaidNeverMends, ChainFits, AllKept, FullAt256, OneLinkMore, NoLink, Guarantee};
 ghost use Rattle.law.specs.Examples.{WorkedExamples};
 

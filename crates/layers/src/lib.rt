@@ -1,4 +1,6 @@
 // Layers over any sealed office: a layer is drafted over it, sealed, and is an office again.
+#![tactic(auto)]
+
 pub mod house;
 pub mod withheld;
 

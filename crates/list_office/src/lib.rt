@@ -1,4 +1,6 @@
 // The list office: seniority by a list of at most 128 pairs.
+#![tactic(auto)]
+
 pub mod list;
 pub mod lists;
 pub mod pair;

@@ -1,4 +1,6 @@
 // The matrix office: for each role, all roles that it is over.
+#![tactic(auto)]
+
 pub mod matrix;
 pub mod rows;
 

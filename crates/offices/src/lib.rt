@@ -1,4 +1,6 @@
 // What an office is, and what every kind of office shares.
+#![tactic(auto)]
+
 pub mod base;
 pub mod bases;
 pub mod exclusive;

@@ -1,4 +1,6 @@
 // Which codes are reached from which sources: one row of bits a source.
+#![tactic(auto)]
+
 ghost use Rattle.reach.specs.Laws.{RowBegins, RowGrows, TableBegins, TableGrows, StepsBegin, StepsGrow, BestBySteps};
 
 pub mod row;

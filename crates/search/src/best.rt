@@ -26,8 +26,8 @@ fn first_start(starts: &[bool], n: usize, home: &[u16], k: usize) -> usize
 
 // The smallest node at distance k to which a step leads from u.
 fn next_node<S: StepTest>(test: &S, n: usize, u: usize, home: &[u16], k: usize) -> usize
-    requires { (n ≤ length home.now) × (Any n (Following (leads test.now) u home.now k)) }
-    ensures { Least n (Following (leads test.now) u home.now k) result }
+    requires { (n ≤ length home.now) × (Any n (Following (S.leads test.now) u home.now k)) }
+    ensures { Least n (Following (S.leads test.now) u home.now k) result }
 {
     for v in 0..n {
         if home[v] as usize == k && test.step(u, v) {
@@ -49,8 +49,8 @@ fn walk<S: StepTest>(
     requires all { (n ≤ 1024) × (steps < 65534) }
     requires room { (n ≤ length starts.now) × ((n ≤ length home.now) × (steps < length strip.old)) }
     requires start { Any n (Starting (marked starts.now) home.now steps) }
-    requires down { Descends n (leads test.now) home.now }
-    ensures { Walked n (leads test.now) (marked starts.now) steps home.now steps strip.old strip.new }
+    requires down { Descends n (S.leads test.now) home.now }
+    ensures { Walked n (S.leads test.now) (marked starts.now) steps home.now steps strip.old strip.new }
 {
     strip[0] = first_start(starts, n, home, steps) as u16;
     for i in 0..steps {
@@ -70,12 +70,12 @@ fn trace<G: Graph>(
     home: &mut [u16],
     strip: &mut [u16],
 )
-    requires all { (target < size graph.now) × (steps < size graph.now) }
-    requires marks { (size graph.now ≤ length starts.now) × (size graph.now ≤ length near.now) }
-    requires room { (size graph.now ≤ length home.old) × (size graph.now ≤ length strip.old) }
-    requires short { Shortest (Steps (leads graph.now)) (Marked (size graph.now) starts.now) target (steps + 1) }
-    requires labels { Layered (size graph.now) (leads graph.now) (marked starts.now) steps near.now }
-    ensures { Traced (Steps (leads graph.now)) (Marked (size graph.now) starts.now) target (steps + 1) strip.old strip.new }
+    requires all { (target < G.size graph.now) × (steps < G.size graph.now) }
+    requires marks { (G.size graph.now ≤ length starts.now) × (G.size graph.now ≤ length near.now) }
+    requires room { (G.size graph.now ≤ length home.old) × (G.size graph.now ≤ length strip.old) }
+    requires short { Shortest (Steps (G.leads graph.now)) (Marked (G.size graph.now) starts.now) target (steps + 1) }
+    requires labels { Layered (G.size graph.now) (G.leads graph.now) (marked starts.now) steps near.now }
+    ensures { Traced (Steps (G.leads graph.now)) (Marked (G.size graph.now) starts.now) target (steps + 1) strip.old strip.new }
 {
     let n = graph.nodes();
     let nearer = NearerSteps {
@@ -97,7 +97,7 @@ pub fn best_chain<G: Graph>(
     home: &mut [u16],
     strip: &mut [u16],
 ) -> Outcome
-    ensures { Searched (size graph.now) (leads graph.now) starts.now target (length near.old) (length home.old) strip.old strip.new result }
+    ensures { Searched (G.size graph.now) (G.leads graph.now) starts.now target (length near.old) (length home.old) strip.old strip.new result }
 {
     let n = graph.nodes();
     if target >= n || starts.len() < n || near.len() < n || home.len() < n || strip.len() < n {

@@ -19,7 +19,7 @@ pub enum Arrival {
 // Gives each node without a distance to which a step leads from u the distance k + 1.
 fn expand<S: StepTest>(test: &S, n: usize, u: usize, k: u16, d: &mut [u16])
     requires { (k < 65534) × (n ≤ length d.old) }
-    ensures { Spread (leads test.now) u k n d.old d.new }
+    ensures { Spread (S.leads test.now) u k n d.old d.new }
 {
     for v in 0..n {
         if d[v] == NONE && test.step(u, v) {
@@ -31,7 +31,7 @@ fn expand<S: StepTest>(test: &S, n: usize, u: usize, k: u16, d: &mut [u16])
 // Expands the nodes at distance k, and says how many there are.
 fn layer<S: StepTest>(test: &S, n: usize, k: u16, d: &mut [u16]) -> usize
     requires { (k < 65534) × (n ≤ length d.old) }
-    ensures next { (st : ℕ → Bool) → Layered n (leads test.now) st k d.old → Layered n (leads test.now) st (k + 1) d.new }
+    ensures next { (st : ℕ → Bool) → Layered n (S.leads test.now) st k d.old → Layered n (S.leads test.now) st (k + 1) d.new }
     ensures grown { Grown k d.old d.new }
     ensures many { result ≡ at_layer k d.old n }
 {
@@ -73,9 +73,9 @@ pub fn reach<G: Graph>(
     target: usize,
     near: &mut [u16],
 ) -> Arrival
-    requires all { (n ≡ size graph.now) × (target < n) }
+    requires all { (n ≡ G.size graph.now) × (target < n) }
     requires room { (n ≤ length starts.now) × (n ≤ length near.old) }
-    ensures { Arriving (size graph.now) (leads graph.now) starts.now target near.new result }
+    ensures { Arriving (G.size graph.now) (G.leads graph.now) starts.now target near.new result }
 {
     seed_starts(starts, n, near);
     let ahead = AllSteps { graph };
@@ -95,7 +95,7 @@ pub fn reach<G: Graph>(
 // Distances to the target, up to `steps`.
 pub fn homing<S: StepTest>(test: &S, n: usize, target: usize, steps: u16, home: &mut [u16])
     requires { (steps < 65534) × (n ≤ length home.old) }
-    ensures { Layered n (turned (leads test.now)) (only target) steps home.new }
+    ensures { Layered n (turned (S.leads test.now)) (only target) steps home.new }
 {
     seed_target(target, n, home);
     let back = TurnedSteps { steps: test };

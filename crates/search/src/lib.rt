@@ -1,4 +1,6 @@
 // Best chains in any graph.
+#![tactic(auto)]
+
 ghost use Rattle.search.specs.Laws.{OneBest, OneNearer, OneReached, NearerFew, OneOutcome};
 
 mod best;

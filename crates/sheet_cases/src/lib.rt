@@ -1,4 +1,6 @@
 // Worked examples of sheets, lines and columns.
+#![tactic(auto)]
+
 #[cfg(test)]
 mod fields;
 #[cfg(test)]

@@ -1,5 +1,7 @@
 // Reads a request sheet from standard input, and notes for each line what it reads as, or its fault, and that the
 // line written for it is the line that was read.
+#![tactic(auto)]
+
 use sheets::{Fault, Lines, Token, read_line, write_line};
 use std::io;
 use std::io::Read;

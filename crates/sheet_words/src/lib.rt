@@ -1,4 +1,6 @@
 // The words of the requests, as they stand in the first eight columns of a line.
+#![tactic(auto)]
+
 ghost use Rattle.std.specs.Prelude.{◌≡◌};
 ghost use Rattle.sheet_words.specs.Words.{word_of, Spells};
 

@@ -1,5 +1,7 @@
 // Request sheets. A sheet is a list of bytes, one request to a line.
 // A line is read into a token, the request with its numbers or its shelf mark, and a token is written as its line.
+#![tactic(auto)]
+
 ghost use Rattle.sheets.specs.Lines.{LinesMakeTheSheet};
 ghost use Rattle.sheets.specs.Promise.{LinesAndTokensMatch};
 

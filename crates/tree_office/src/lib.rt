@@ -1,4 +1,6 @@
 // The tree office: each role has at most one direct senior.
+#![tactic(auto)]
+
 pub mod tree;
 pub mod trees;
 

@@ -1,4 +1,6 @@
 // Carries a real task through, with a printed note of each thing done.
+#![tactic(auto)]
+
 mod bank;
 mod drafting;
 mod houses;

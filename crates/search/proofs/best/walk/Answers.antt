@@ -11,11 +11,11 @@ loop-i-init g c =
     let st = marked c.args.starts.now in
     let k = c.args.steps in
     let d = c.args.home.now in
-    let r = c.first-start.result in
+    let r = c.first_start.result in
     let old = c.args.strip.now in
     let P : ℕ → Type 0 = λ x. Least n (Starting st d k) x in
     let e = get_or-set_same old 0 r 0 (omega arith) in
-    walked_none n s st k d (set old 0 r) (omega (arith, length-set old 0 r)) (subst P (sym e) c.first-start.ensures)
+    walked_none n s st k d (set old 0 r) (omega (arith, length-set old 0 r)) (subst P (sym e) c.first_start.ensures)
 
 pub next-node-requires : goal.next-node-requires
 next-node-requires g c =
@@ -27,7 +27,7 @@ next-node-requires g c =
 
 pub loop-i-preserved : goal.loop-i-preserved
 loop-i-preserved g c =
-    walked_more c.args.n (g.S.StepTest.leads c.args.test.now) (marked c.args.starts.now) c.args.steps c.args.home.now (set c.args.strip.now 0 c.first-start.result) c.loop-i.i c.next-node.result c.loop-i.strip (omega arith) (omega (arith, length-set c.args.strip.now 0 c.first-start.result)) c.loop-i.invariant c.next-node.ensures
+    walked_more c.args.n (g.S.StepTest.leads c.args.test.now) (marked c.args.starts.now) c.args.steps c.args.home.now (set c.args.strip.now 0 c.first_start.result) c.loop-i.i c.next_node.result c.loop-i.strip (omega arith) (omega (arith, length-set c.args.strip.now 0 c.first_start.result)) c.loop-i.invariant c.next_node.ensures
 
 pub returns : goal.returns
 returns g c =
@@ -36,7 +36,7 @@ returns g c =
     let st = marked c.args.starts.now in
     let k = c.args.steps in
     let d = c.args.home.now in
-    let r = c.first-start.result in
+    let r = c.first_start.result in
     let old = c.args.strip.now in
     let e : c.loop-i.i ≡ k = omega arith in
     let P : ℕ → Type 0 = λ i. Walked n s st k d i (set old 0 r) c.loop-i.strip in

@@ -6,7 +6,7 @@ use Rattle.search.proofs.layers.reach.Given as given
 use Rattle.search.proofs.layers.reach.Goals as goal
 
 pub loop-near-init : goal.loop-near-init
-loop-near-init g c = going_none c.args.n (g.G.Graph.leads c.args.graph.now) (marked c.args.starts.now) c.args.target c.seed-starts.new.d (omega arith) (λ v l. c.seed-starts.ensures v (omega arith))
+loop-near-init g c = going_none c.args.n (g.G.Graph.leads c.args.graph.now) (marked c.args.starts.now) c.args.target c.seed_starts.new.d (omega arith) (λ v l. c.seed_starts.ensures v (omega arith))
 
 pub layer-count-requires : goal.layer-count-requires
 layer-count-requires g c = let f = g.met.G.Graph.few c.args.graph.now in (omega arith, omega arith)
