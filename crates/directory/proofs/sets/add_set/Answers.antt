@@ -12,11 +12,11 @@ returns g c =
     let law = g.met.B.Bank.lawful c.args.bank.now c.args.office in
     let b = c.args.base.now in
     let after = c.exclude.ensures.after nobody_over in
-    let size : c.copy-members-size.result - 0 ≡ c.copy-members-size.result = omega arith in
-    let members = ap (λ n. take n c.copy-members-size.new.places) size ∙ c.copy-members-size.ensures.copied in
+    let size : c.copy_members-size.result - 0 ≡ c.copy_members-size.result = omega arith in
+    let members = ap (λ n. take n c.copy_members-size.new.places) size ∙ c.copy_members-size.ensures.copied in
     record {
-      sets = set_added m.roles m.sets law.shaped law.eight c.args.set c.requires.there (base_roles b) (base_sets b) (base_sets c.exclude.new.self) _ c.set-bound-bound.result c.exclude.result
-          c.requires.roles c.requires.before members c.set-bound-bound.ensures c.exclude.ensures.answer (ap (λ (x : OfficeModel). x.sets) after);
+      sets = set_added m.roles m.sets law.shaped law.eight c.args.set c.requires.there (base_roles b) (base_sets b) (base_sets c.exclude.new.self) _ c.set_bound-bound.result c.exclude.result
+          c.requires.roles c.requires.before members c.set_bound-bound.ensures c.exclude.ensures.answer (ap (λ (x : OfficeModel). x.sets) after);
       roles = c.exclude.ensures.kept;
       shared = ap (λ (x : OfficeModel). x.shared) after;
     }

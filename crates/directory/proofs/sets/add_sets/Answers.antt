@@ -7,7 +7,7 @@ pub returns : goal.returns
 returns g c =
     let m = office_at (g.B.Bank.offices c.args.bank.now) c.args.office in
     record {
-      sets = c.loop-set.invariant.0 ∙ take_all c.loop-set.set m.sets (omega (arith, c.set-count-count.ensures));
+      sets = c.loop-set.invariant.0 ∙ take_all c.loop-set.set m.sets (omega (arith, c.set_count-count.ensures));
       roles = c.loop-set.invariant.1;
       shared = c.loop-set.invariant.2;
     }

@@ -14,10 +14,10 @@ loop-set-preserved c =
     let sets = base_sets c.args.base.now in
     let words = c.loop-set.words in
     let n = c.loop-set.set in
-    let v = c.word-of.result in (
+    let v = c.word_of.result in (
       length-set words n v ∙ c.loop-set.invariant.0,
       λ k i h. ⊎_elim
-          (λ (e : k ≡ n). subst (λ x. row_holds (set words n v) x i ≡ among i (members_at sets x)) (sym e) (row_set_same words n v i (omega (arith, c.loop-set.invariant.0)) ∙ c.word-of.ensures i))
+          (λ (e : k ≡ n). subst (λ x. row_holds (set words n v) x i ≡ among i (members_at sets x)) (sym e) (row_set_same words n v i (omega (arith, c.loop-set.invariant.0)) ∙ c.word_of.ensures i))
           (λ (d : k ≡ n → ⊥). row_set_other words n v k i d ∙ c.loop-set.invariant.1 k i (omega arith))
           (cases_eq k n),
     )

@@ -7,7 +7,7 @@ use Rattle.offices.proofs.RowFacts.{row_set_same, row_set_other, row_replicate}
 use Rattle.matrix_office.proofs.rows.diagonal.Goals as goal
 
 pub loop-role-init : goal.loop-role-init
-loop-role-init c = (refl, λ a b h. absurd (omega arith), λ a b h. row_replicate 64 c.empty-rows.result a b c.empty-rows.ensures)
+loop-role-init c = (refl, λ a b h. absurd (omega arith), λ a b h. row_replicate 64 c.empty_rows.result a b c.empty_rows.ensures)
 
 pub loop-role-preserved : goal.loop-role-preserved
 loop-role-preserved c =

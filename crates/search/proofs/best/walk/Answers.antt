@@ -17,10 +17,10 @@ loop-i-init g c =
     let e = get_or-set_same old 0 r 0 (omega arith) in
     walked_none n s st k d (set old 0 r) (omega (arith, length-set old 0 r)) (subst P (sym e) c.first_start.ensures)
 
-pub next-node-requires : goal.next-node-requires
-next-node-requires g c =
+pub next_node-requires : goal.next_node-requires
+next_node-requires g c =
     let i = c.loop-i.i in
-    let a = walked_at c.args.n (g.S.StepTest.leads c.args.test.now) (marked c.args.starts.now) c.args.steps c.args.home.now (set c.args.strip.now 0 c.first-start.result) c.loop-i.strip i (omega arith) c.loop-i.invariant in
+    let a = walked_at c.args.n (g.S.StepTest.leads c.args.test.now) (marked c.args.starts.now) c.args.steps c.args.home.now (set c.args.strip.now 0 c.first_start.result) c.loop-i.strip i (omega arith) c.loop-i.invariant in
     let x = c.requires.all in
     let y = c.requires.room in
     (omega arith, c.requires.down (get_or c.loop-i.strip i 0) (c.args.steps - (i + 1)) a.0 (omega (arith, a.1)) (omega arith))

@@ -22,11 +22,11 @@ room g c =
     let i = c.loop-near.invariant in
     going_room c.args.n (g.G.Graph.leads c.args.graph.now) (marked c.args.starts.now) c.loop-near.k c.loop-near.looked c.layer-count.result c.loop-near.near i.seen c.layer-count.ensures.many
 
-pub overflow-add-looked : goal.overflow-add-looked
-overflow-add-looked g c = omega (arith, room g c)
+pub overflow_add-looked : goal.overflow_add-looked
+overflow_add-looked g c = omega (arith, room g c)
 
-pub overflow-add-k : goal.overflow-add-k
-overflow-add-k g c = let f = g.met.G.Graph.few c.args.graph.now in omega arith
+pub overflow_add-k : goal.overflow_add-k
+overflow_add-k g c = let f = g.met.G.Graph.few c.args.graph.now in omega arith
 
 pub loop-near-smaller : goal.loop-near-smaller
 loop-near-smaller g c = omega (arith, room g c)

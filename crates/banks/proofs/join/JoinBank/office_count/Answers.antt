@@ -5,7 +5,7 @@ use Rattle.banks.proofs.join.JoinBank.office_count.Goals as goal
 pub returns-then-count-lt16 : goal.returns-then-count-lt16
 returns-then-count-lt16 g c =
     let x = c.args.self.now in
-    length_with (g.B.Bank.offices x.bank) (g.O.Office.model x.last) c.office-count-count.result c.office-count-count.ensures (omega arith)
+    length_with (g.B.Bank.offices x.bank) (g.O.Office.model x.last) c.office_count-count.result c.office_count-count.ensures (omega arith)
 
 pub returns-else-count-lt16 : goal.returns-else-count-lt16
 returns-else-count-lt16 g c =

@@ -7,19 +7,19 @@ use Rattle.banks.specs.Banks.{office_at}
 use Rattle.directory.proofs.Listing.{same_model}
 use Rattle.directory.proofs.entry.OfficeEntry.read.Goals as goal
 
-pub invariant-of-result : goal.invariant-of-result
-invariant-of-result g c =
+pub invariant_of-result : goal.invariant_of-result
+invariant_of-result g c =
     let m = office_at (g.B.Bank.offices c.args.bank.now) c.args.office in
     let law = g.met.B.Bank.lawful c.args.bank.now c.args.office in
-    let over = fun_ext (λ a. fun_ext (λ b. c.seniority-of-juniors.ensures a b)) in
-    let roles = c.add-sets.ensures.roles ∙ c.marked-base-base.ensures.roles in
-    (search rules, (search rules, (∣ subst (λ n. Order n (row_holds c.seniority-of-juniors.result)) (sym roles) (subst (Order m.roles) (sym over) law.order) ∣₁, (∣ c.words-of-members.ensures ∣₁, tt))))
+    let over = fun_ext (λ a. fun_ext (λ b. c.seniority_of-juniors.ensures a b)) in
+    let roles = c.add_sets.ensures.roles ∙ c.marked_base-base.ensures.roles in
+    (search rules, (search rules, (∣ subst (λ n. Order n (row_holds c.seniority_of-juniors.result)) (sym roles) (subst (Order m.roles) (sym over) law.order) ∣₁, (∣ c.words_of-members.ensures ∣₁, tt))))
 
 pub returns : goal.returns
 returns g c =
     let m = office_at (g.B.Bank.offices c.args.bank.now) c.args.office in
-    same_model c.add-sets.new.base (row_holds c.seniority-of-juniors.result) m
-    (c.add-sets.ensures.roles ∙ c.marked-base-base.ensures.roles)
-    (fun_ext (λ a. fun_ext (λ b. c.seniority-of-juniors.ensures a b)))
-    (c.add-sets.ensures.shared ∙ fun_ext (λ a. c.marked-base-base.ensures.shared a))
-    c.add-sets.ensures.sets
+    same_model c.add_sets.new.base (row_holds c.seniority_of-juniors.result) m
+    (c.add_sets.ensures.roles ∙ c.marked_base-base.ensures.roles)
+    (fun_ext (λ a. fun_ext (λ b. c.seniority_of-juniors.ensures a b)))
+    (c.add_sets.ensures.shared ∙ fun_ext (λ a. c.marked_base-base.ensures.shared a))
+    c.add_sets.ensures.sets

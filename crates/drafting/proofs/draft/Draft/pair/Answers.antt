@@ -66,8 +66,8 @@ returns-then-senior-junior g c =
       history = keeps_refused (office_of d.base over) (pair s j) Circular;
     }
 
-pub returns-then-is-over : goal.returns-then-is-over
-returns-then-is-over g c =
+pub returns-then-is_over : goal.returns-then-is_over
+returns-then-is_over g c =
     let d = c.args.self.now.office in
     let s = c.args.senior in
     let j = c.args.junior in
@@ -76,7 +76,7 @@ returns-then-is-over g c =
     let order = g.met.S.Seniority.order d.seniority in
     let ls : s < n = omega arith in
     let lj : j < n = omega arith in
-    let follows : over s j ≡ true = sym c.if-is-over.ensures in
+    let follows : over s j ≡ true = sym c.if-is_over.ensures in
     let seen : within n over s j ≡ true = within_at n over s j ls lj ∙ follows in
     let apart : within n over j s ≡ false = within_at n over j s lj ls ∙ ⊎_elim (λ t. absurd (c.if-senior-junior.false (order.apart s j follows t))) (λ f. f) (cases_Bool (over j s)) in
     let same : within n over ≡ grown (within n over) s j = sym (grown_same n (within n over) (within_order n over d.base.table.few order) s j seen) in
@@ -99,7 +99,7 @@ returns g c =
     let ls : s < n = omega arith in
     let lj : j < n = omega arith in
     let ne = c.if-senior-junior.false in
-    let new : over s j ≡ false = sym c.if-is-over.ensures in
+    let new : over s j ≡ false = sym c.if-is_over.ensures in
     let few = d.base.table.few in
     let e = c.keep.ensures in
     let after = office_after d.base over (g.S.Seniority.over c.keep.new.self) c.keep.result s j ls lj e.after in

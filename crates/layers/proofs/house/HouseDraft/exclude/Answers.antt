@@ -7,16 +7,16 @@ use Rattle.layers.specs.Layers.{fitting, house_model}
 use Rattle.layers.proofs.HouseDrafts.{room_left, as_fitted, too_many, same_answer, set_more}
 use Rattle.layers.proofs.house.HouseDraft.exclude.Goals as goal
 
-pub overflow-add-sets : goal.overflow-add-sets
-overflow-add-sets g c =
+pub overflow_add-sets : goal.overflow_add-sets
+overflow_add-sets g c =
     let x = c.args.self.now.layer in
     let m = g.O.Office.model x.below in
     let t = x.own in
     let u = c.fit.new.self in
     let law = g.met.O.Office.lawful x.below in
     let few = law.few in
-    let n : min c.role-count-roles.result 64 ≡ m.roles = omega (arith, c.role-count-roles.ensures) in
-    let e : table_sets u ≡ fitting m (table_roles t) (table_sets t) = c.fit.ensures.sets ∙ ap₂ (λ r k. fitted (table_roles t) r (8 - k) (table_sets t)) n c.set-count-sets.ensures in
+    let n : min c.role_count-roles.result 64 ≡ m.roles = omega (arith, c.role_count-roles.ensures) in
+    let e : table_sets u ≡ fitting m (table_roles t) (table_sets t) = c.fit.ensures.sets ∙ ap₂ (λ r k. fitted (table_roles t) r (8 - k) (table_sets t)) n c.set_count-sets.ensures in
     let left = room_left m (table_sets u) (table_roles t) (table_sets t) e law.eight in
     omega arith
 
@@ -28,8 +28,8 @@ returns-then-sets-len-ge8 g c =
     let u = c.fit.new.self in
     let law = g.met.O.Office.lawful x.below in
     let few = law.few in
-    let n : min c.role-count-roles.result 64 ≡ m.roles = omega (arith, c.role-count-roles.ensures) in
-    let e : table_sets u ≡ fitting m (table_roles t) (table_sets t) = c.fit.ensures.sets ∙ ap₂ (λ r k. fitted (table_roles t) r (8 - k) (table_sets t)) n c.set-count-sets.ensures in
+    let n : min c.role_count-roles.result 64 ≡ m.roles = omega (arith, c.role_count-roles.ensures) in
+    let e : table_sets u ≡ fitting m (table_roles t) (table_sets t) = c.fit.ensures.sets ∙ ap₂ (λ r k. fitted (table_roles t) r (8 - k) (table_sets t)) n c.set_count-sets.ensures in
     let left : length m.sets + length (table_sets u) ≤ 8 = room_left m (table_sets u) (table_roles t) (table_sets t) e law.eight in
     record {
       answer = too_many m (table_sets u) (table_roles t) (table_sets t) c.args.members.now c.args.bound e (omega arith);
@@ -46,9 +46,9 @@ returns g c =
     let v = c.add.new.self in
     let law = g.met.O.Office.lawful x.below in
     let few = law.few in
-    let n : min c.role-count-roles.result 64 ≡ m.roles = omega (arith, c.role-count-roles.ensures) in
+    let n : min c.role_count-roles.result 64 ≡ m.roles = omega (arith, c.role_count-roles.ensures) in
     let roles = c.fit.ensures.roles ∙ n in
-    let e : table_sets u ≡ fitting m (table_roles t) (table_sets t) = c.fit.ensures.sets ∙ ap₂ (λ r k. fitted (table_roles t) r (8 - k) (table_sets t)) n c.set-count-sets.ensures in
+    let e : table_sets u ≡ fitting m (table_roles t) (table_sets t) = c.fit.ensures.sets ∙ ap₂ (λ r k. fitted (table_roles t) r (8 - k) (table_sets t)) n c.set_count-sets.ensures in
     record {
       answer = c.add.ensures.answer ∙ ap (λ r. set_answer r (table_sets u) c.args.members.now c.args.bound) roles
           ∙ same_answer m (table_sets u) (table_roles t) (table_sets t) c.args.members.now c.args.bound e (omega arith);

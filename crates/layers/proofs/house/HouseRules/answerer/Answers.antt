@@ -14,13 +14,13 @@ returns-then-set-ge8 g c =
     let x = c.args.self.now in
     no_set (g.O.Office.model x.below) (table_roles x.own) (table_sets x.own) c.args.set (g.met.O.Office.lawful x.below).eight (omega arith) (inl (omega arith))
 
-pub returns-then-roles-role-count : goal.returns-then-roles-role-count
-returns-then-roles-role-count g c =
+pub returns-then-roles-role_count : goal.returns-then-roles-role_count
+returns-then-roles-role_count g c =
     let x = c.args.self.now in
     no_set (g.O.Office.model x.below) (table_roles x.own) (table_sets x.own) c.args.set (g.met.O.Office.lawful x.below).eight (omega arith) (inr (omega arith))
 
-pub returns-else-roles-role-count : goal.returns-else-roles-role-count
-returns-else-roles-role-count g c =
+pub returns-else-roles-role_count : goal.returns-else-roles-role_count
+returns-else-roles-role_count g c =
     let x = c.args.self.now in
     set_own (g.O.Office.model x.below) (table_roles x.own) (table_sets x.own) c.args.set (omega arith) (omega arith) (omega arith)
     ∙ ap (λ n. slice_get (table_sets x.own) (c.args.set - n)) (omega arith)

@@ -3,8 +3,8 @@ use Rattle.offices.proofs.RowFacts.{row_replicate}
 use Rattle.list_office.proofs.PairFacts.{acyclic_none, closed_none}
 use Rattle.list_office.proofs.lists.PairListSeniority.alone.Goals as goal
 
-pub invariant-of-result : goal.invariant-of-result
-invariant-of-result c = (search rules, (refl, (refl, (∣ (λ a b. row_replicate 64 c.empty.result a b c.empty.ensures) ∣₁, (∣ acyclic_none 64 ∣₁, tt)))))
+pub invariant_of-result : goal.invariant_of-result
+invariant_of-result c = (search rules, (refl, (refl, (∣ (λ a b. row_replicate 64 c.empty.result a b c.empty.ensures) ∣₁, (∣ acyclic_none 64 ∣₁, tt)))))
 
 pub returns : goal.returns
 returns c = record { over = closed_none 64; blank = refl }

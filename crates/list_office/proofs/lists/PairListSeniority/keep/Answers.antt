@@ -12,8 +12,8 @@ use Rattle.list_office.specs.PairProps.{rows_from, acyclic_from}
 use Rattle.list_office.proofs.PairFacts.{rows_push, acyclic_push}
 use Rattle.list_office.proofs.lists.PairListSeniority.keep.Goals as goal
 
-pub invariant-of-self : goal.invariant-of-self
-invariant-of-self c =
+pub invariant_of-self : goal.invariant_of-self
+invariant_of-self c =
     let l = c.args.self.now in
     let p : Pair = record { senior = c.args.senior; junior = c.args.junior } in
     let room = l.room in
@@ -28,7 +28,7 @@ invariant-of-self c =
           length-set l.juniors c.args.senior c.with-below.result ∙ l.rows,
           (
             ∣ subst (Rows (row_holds juniors)) (sym more) (rows_push l.juniors (pairs_in l) p c.with-below.result (omega arith) (omega arith) (rows_from (row_holds l.juniors) (pairs_in l) l.steps) c.with-below.ensures) ∣₁,
-            (∣ subst (Acyclic 64) (sym more) (acyclic_push 64 (pairs_in l) p (acyclic_from 64 (pairs_in l) l.order) (omega arith) (omega arith) (sym c.if-is-over.ensures)) ∣₁, tt),
+            (∣ subst (Acyclic 64) (sym more) (acyclic_push 64 (pairs_in l) p (acyclic_from 64 (pairs_in l) l.order) (omega arith) (omega arith) (sym c.if-is_over.ensures)) ∣₁, tt),
           ),
         ),
       ),
@@ -44,7 +44,7 @@ returns c =
     let long : length (pairs_in l) ≡ l.count = length-take-le l.count l.pairs (omega arith) in
     let more : kept_pairs (l.count + 1) (set l.pairs l.count p) ≡ pairs_in l ++ (p ∷ []) = take_more_set l.pairs l.count p (omega arith) in
     record {
-      answer = cond_below (length (pairs_in l)) 128 (Ok tt) (Err PairsFull) (omega arith) ∙ keep_own (list_over l) (room_answer (pairs_in l)) s j (omega arith) (omega arith) (sym c.if-is-over.ensures);
+      answer = cond_below (length (pairs_in l)) 128 (Ok tt) (Err PairsFull) (omega arith) ∙ keep_own (list_over l) (room_answer (pairs_in l)) s j (omega arith) (omega arith) (sym c.if-is_over.ensures);
       after = over_kept (Ok tt) (pairs_in l) _ p more;
       stored = more;
     }

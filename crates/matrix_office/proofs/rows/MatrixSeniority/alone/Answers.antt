@@ -5,8 +5,8 @@ use Rattle.offices.specs.Order.{Order, itself_alone}
 use Rattle.offices.proofs.Closing.{alone_order}
 use Rattle.matrix_office.proofs.rows.MatrixSeniority.alone.Goals as goal
 
-pub invariant-of-result : goal.invariant-of-result
-invariant-of-result c =
+pub invariant_of-result : goal.invariant_of-result
+invariant_of-result c =
     let same = fun_ext (λ a. fun_ext (λ b. c.diagonal.ensures a b)) in
     (search rules, (∣ subst (Order 64) (sym same) (alone_order 64) ∣₁, tt))
 

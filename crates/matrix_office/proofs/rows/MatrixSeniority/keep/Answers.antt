@@ -7,8 +7,8 @@ use Rattle.offices.proofs.Props.{order_from}
 use Rattle.drafting.proofs.KeepAnswers.{keep_own}
 use Rattle.matrix_office.proofs.rows.MatrixSeniority.keep.Goals as goal
 
-pub invariant-of-self : goal.invariant-of-self
-invariant-of-self c =
+pub invariant_of-self : goal.invariant_of-self
+invariant_of-self c =
     let over = row_holds c.args.self.now.rows in
     let same = fun_ext (λ a. fun_ext (λ b. c.absorb.ensures a b)) in
     let order = order_from 64 over c.args.self.now.order in

@@ -8,12 +8,12 @@ use Rattle.offices.proofs.SetShape.{answer_bad, answer_role, answer_ok, sets_pus
 use Rattle.offices.proofs.Props.{shaped_from}
 use Rattle.offices.proofs.table.SetTable.add.Goals as goal
 
-pub returns-then-not-well-formed : goal.returns-then-not-well-formed
-returns-then-not-well-formed c =
+pub returns-then-not-well_formed : goal.returns-then-not-well_formed
+returns-then-not-well_formed c =
     let d = c.args.self.now in
     let e = length_sets d.count d.sets (omega arith) in
     record {
-      answer = answer_bad d.roles (sets_of d.count d.sets) c.args.members.now c.args.bound (omega arith) (sym c.if-not-well-formed.ensures);
+      answer = answer_bad d.roles (sets_of d.count d.sets) c.args.members.now c.args.bound (omega arith) (sym c.if-not-well_formed.ensures);
       after = refl;
       kept = refl;
     }
@@ -23,26 +23,26 @@ returns-then-not-exist c =
     let d = c.args.self.now in
     let e = length_sets d.count d.sets (omega arith) in
     record {
-      answer = answer_role d.roles (sets_of d.count d.sets) c.args.members.now c.args.bound (omega arith) (sym c.if-not-well-formed.ensures) (sym c.if-not-exist.ensures);
+      answer = answer_role d.roles (sets_of d.count d.sets) c.args.members.now c.args.bound (omega arith) (sym c.if-not-well_formed.ensures) (sym c.if-not-exist.ensures);
       after = refl;
       kept = refl;
     }
 
-pub exclusive-set-set-requires : goal.exclusive-set-set-requires
-exclusive-set-set-requires c = good_few c.args.members.now c.args.bound (sym c.if-not-well-formed.ensures)
+pub exclusive_set-set-requires : goal.exclusive_set-set-requires
+exclusive_set-set-requires c = good_few c.args.members.now c.args.bound (sym c.if-not-well_formed.ensures)
 
-pub invariant-of-self : goal.invariant-of-self
-invariant-of-self c =
+pub invariant_of-self : goal.invariant_of-self
+invariant_of-self c =
     let d = c.args.self.now in
-    let new = subst (Shaped d.roles) (sym c.exclusive-set-set.ensures) (shaped_good d.roles c.args.members.now c.args.bound (sym c.if-not-well-formed.ensures) (sym c.if-not-exist.ensures)) in (
+    let new = subst (Shaped d.roles) (sym c.exclusive_set-set.ensures) (shaped_good d.roles c.args.members.now c.args.bound (sym c.if-not-well_formed.ensures) (sym c.if-not-exist.ensures)) in (
       d.few,
       (
         search rules,
         (
           search rules,
           (
-            ∣ subst (All (Shaped d.roles)) (sym (sets_push d.count d.sets c.exclusive-set-set.result (omega arith)))
-                (All-push (Shaped d.roles) (sets_of d.count d.sets) (set_model c.exclusive-set-set.result) (shaped_from d.roles d.count d.sets d.shaped) new) ∣₁,
+            ∣ subst (All (Shaped d.roles)) (sym (sets_push d.count d.sets c.exclusive_set-set.result (omega arith)))
+                (All-push (Shaped d.roles) (sets_of d.count d.sets) (set_model c.exclusive_set-set.result) (shaped_from d.roles d.count d.sets d.shaped) new) ∣₁,
             tt,
           ),
         ),
@@ -54,7 +54,7 @@ returns c =
     let d = c.args.self.now in
     let e = length_sets d.count d.sets (omega arith) in
     record {
-      answer = answer_ok d.roles (sets_of d.count d.sets) c.args.members.now c.args.bound (omega arith) (sym c.if-not-well-formed.ensures) (sym c.if-not-exist.ensures);
-      after = sets_push d.count d.sets c.exclusive-set-set.result (omega arith) ∙ ap (λ s. sets_of d.count d.sets ++ (s ∷ [])) c.exclusive-set-set.ensures;
+      answer = answer_ok d.roles (sets_of d.count d.sets) c.args.members.now c.args.bound (omega arith) (sym c.if-not-well_formed.ensures) (sym c.if-not-exist.ensures);
+      after = sets_push d.count d.sets c.exclusive_set-set.result (omega arith) ∙ ap (λ s. sets_of d.count d.sets ++ (s ∷ [])) c.exclusive_set-set.ensures;
       kept = refl;
     }

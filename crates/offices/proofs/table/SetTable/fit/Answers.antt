@@ -7,11 +7,11 @@ use Rattle.offices.proofs.Fitted.{fitted_shaped}
 use Rattle.offices.proofs.Props.{shaped_from}
 use Rattle.offices.proofs.table.SetTable.fit.Goals as goal
 
-pub invariant-of-self : goal.invariant-of-self
-invariant-of-self c =
+pub invariant_of-self : goal.invariant_of-self
+invariant_of-self c =
     let d = c.args.self.now in
-    let roles = c.at-most-64-roles.result in (
-      omega (arith, c.at-most-64-roles.ensures),
+    let roles = c.at_most_64-roles.result in (
+      omega (arith, c.at_most_64-roles.ensures),
       (
         c.keeping-keep.ensures.few,
         (
@@ -29,6 +29,6 @@ pub returns : goal.returns
 returns c =
     let d = c.args.self.now in
     record {
-      roles = c.at-most-64-roles.ensures;
-      sets = c.keeping-keep.ensures.sets ∙ ap (λ r. fitted d.roles r c.args.room (table_sets d)) c.at-most-64-roles.ensures;
+      roles = c.at_most_64-roles.ensures;
+      sets = c.keeping-keep.ensures.sets ∙ ap (λ r. fitted d.roles r c.args.room (table_sets d)) c.at_most_64-roles.ensures;
     }

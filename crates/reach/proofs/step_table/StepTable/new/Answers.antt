@@ -3,4 +3,4 @@ use Rattle.reach.proofs.step_table.StepTable.new.Goals as goal
 
 pub returns : goal.returns
 unfolding has_step
-returns c = c.in-ok-rows.ensures.none
+returns c = c.in_ok-rows.ensures.none

@@ -5,4 +5,4 @@ use Rattle.reach.proofs.table.ReachTable.code_row.Goals as goal
 
 pub returns : goal.returns
 unfolding code_reaches
-returns c b = c.row-at.ensures b ∙ ap (λ l. rows_have l c.args.code b) c.deref.ensures.value
+returns c b = c.row_at.ensures b ∙ ap (λ l. rows_have l c.args.code b) c.deref.ensures.value

@@ -5,13 +5,13 @@ use Rattle.reach.proofs.table.ReachTable.new.Goals as goal
 pub returns : goal.returns
 unfolding code_reaches card_reaches owner_reaches
 returns c = record {
-  codes = c.in-ok-codes.ensures.none;
-  cards = c.in-ok-cards.ensures.none;
-  owners = c.in-ok-owners.ensures.none;
+  codes = c.in_ok-codes.ensures.none;
+  cards = c.in_ok-cards.ensures.none;
+  owners = c.in_ok-owners.ensures.none;
 }
 
-pub returns-in-err-cards : goal.returns-in-err-cards
-returns-in-err-cards c = IfOk-from_err c.from-residual-in-err-cards.result NothingReached c.from-residual-in-err-cards.ensures.0
+pub returns-in_err-cards : goal.returns-in_err-cards
+returns-in_err-cards c = IfOk-from_err c.from-residual-in_err-cards.result NothingReached c.from-residual-in_err-cards.ensures.0
 
-pub returns-in-err-owners : goal.returns-in-err-owners
-returns-in-err-owners c = IfOk-from_err c.from-residual-in-err-owners.result NothingReached c.from-residual-in-err-owners.ensures.0
+pub returns-in_err-owners : goal.returns-in_err-owners
+returns-in_err-owners c = IfOk-from_err c.from-residual-in_err-owners.result NothingReached c.from-residual-in_err-owners.ensures.0

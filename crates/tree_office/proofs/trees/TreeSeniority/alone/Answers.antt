@@ -11,8 +11,8 @@ nobody_up b = ⊎_elim
     (λ l. get_or_past (replicate 64 None) b None (omega (arith, length-replicate {A = Option ℕ} 64 None)))
     (cases_lt b 64)
 
-pub invariant-of-result : goal.invariant-of-result
-invariant-of-result c = (refl, (∣ grows_bare 64 (senior_of (replicate 64 None)) nobody_up (omega arith) ∣₁, tt))
+pub invariant_of-result : goal.invariant_of-result
+invariant_of-result c = (refl, (∣ grows_bare 64 (senior_of (replicate 64 None)) nobody_up (omega arith) ∣₁, tt))
 
 pub returns : goal.returns
 returns c = record { over = bare_is 64 (senior_of (replicate 64 None)) nobody_up (omega arith); blank = nobody_up }

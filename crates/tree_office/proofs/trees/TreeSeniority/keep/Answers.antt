@@ -6,12 +6,12 @@ use Rattle.tree_office.specs.Climbing.{is_none, seniors_after}
 use Rattle.tree_office.proofs.OneMore.{tree_more, over_more}
 use Rattle.tree_office.proofs.trees.TreeSeniority.keep.Goals as goal
 
-pub invariant-of-self : goal.invariant-of-self
-invariant-of-self c =
+pub invariant_of-self : goal.invariant_of-self
+invariant_of-self c =
     let t = c.args.self.now in
     let j = c.args.junior in
-    let root = is_none (senior_in t j) (ap is_some (sym c.senior.ensures.value) ∙ sym c.if-is-some.ensures) in
-    (length-set t.seniors j (Some c.args.senior) ∙ t.room, (∣ tree_more t c.args.senior j (omega arith) (omega arith) (sym c.if-is-over.ensures) root ∣₁, tt))
+    let root = is_none (senior_in t j) (ap is_some (sym c.senior.ensures.value) ∙ sym c.if-is_some.ensures) in
+    (length-set t.seniors j (Some c.args.senior) ∙ t.room, (∣ tree_more t c.args.senior j (omega arith) (omega arith) (sym c.if-is_over.ensures) root ∣₁, tt))
 
 pub returns : goal.returns
 returns c =
@@ -19,8 +19,8 @@ returns c =
     let s = c.args.senior in
     let j = c.args.junior in
     let room = t.room in
-    let root = is_none (senior_in t j) (ap is_some (sym c.senior.ensures.value) ∙ sym c.if-is-some.ensures) in
-    let free = sym c.if-is-over.ensures in
+    let root = is_none (senior_in t j) (ap is_some (sym c.senior.ensures.value) ∙ sym c.if-is_some.ensures) in
+    let free = sym c.if-is_over.ensures in
     record {
       answer = sym (ap free_answer root) ∙ keep_own (climbed t) (free_answer (senior_in t j)) s j (omega arith) (omega arith) free;
       after = over_more t s j (omega arith) (omega arith) free root;
