@@ -1,5 +1,5 @@
 -- The answer of a kind to a pair that closes no circle is its own.
-use Rattle.std.proofs.Common.{◌≡◌, ℕ, ◌<◌, Bool, true, false, cond, ◌&&◌, ltb, sym}
+use Rattle.std.proofs.Common.{◌≡◌, ℕ, ◌<◌, Bool, true, false, ◌&&◌, ltb, sym}
 use Rattle.std.proofs.lemmas.Bool.{and_from, lt-ltb}
 use Rattle.offices.specs.Drafting.{Answer}
 use Rattle.drafting.specs.Keeping.{keep_answer}

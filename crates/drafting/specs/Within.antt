@@ -1,9 +1,8 @@
 -- Seniority among 64 roles, seen among the first n of them.
-use Rattle.std.specs.Prelude.{◌≡◌, ℕ, ◌<◌, ◌≤◌, Bool, true, false, cond, not, ◌&&◌, ◌||◌, ◌⊎◌, Ok, Err, ◌==◌, nat_lt, refl}
-use Rattle.std.proofs.Common.{sym, ap, ap₂, subst, ◌∙◌, inl, inr, ⊎_elim, arith}
+use Rattle.std.specs.Prelude.{◌≡◌, ℕ, ◌<◌, ◌≤◌, Bool, true, false, not, ◌&&◌, ◌||◌, Ok, Err, ◌==◌, nat_lt, refl}
+use Rattle.std.proofs.Common.{sym, ap, ◌∙◌, ⊎_elim, arith}
 use Rattle.std.proofs.Math.Path.{fun_ext}
-use Rattle.std.proofs.lemmas.Bool.{and_parts, and_from, and_left, and_right, or_left, or_right, or_from, or_cases, lt-ltb, le-ltb, ltb-true, eq-eqb, eqb-true, ne_eqb, cases_Bool, both_ways, not_from_true, not_from_false}
-use Rattle.answers.specs.declared.Refusal.TheVariants.{NoSuchRole, Circular}
+use Rattle.std.proofs.lemmas.Bool.{and_parts, and_from, and_left, and_right, or_left, or_right, or_from, or_cases, lt-ltb, le-ltb, ltb-true, eq-eqb, eqb-true, ne_eqb, not_from_true, not_from_false}
 use Rattle.offices.specs.Order.{Order, itself_alone, grown, within}
 use Rattle.offices.specs.Drafting.{Answer, pair_answer, over_after, after_pair}
 use Rattle.offices.specs.Bases.{base_roles, office_with}

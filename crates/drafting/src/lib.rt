@@ -3,8 +3,8 @@
 
 pub mod draft;
 pub mod drafts;
-pub mod offices;
 pub mod sealed;
+pub mod sealed_office;
 pub mod seniority;
 
 pub use draft::Draft;

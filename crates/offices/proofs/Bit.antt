@@ -1,5 +1,5 @@
 -- The bits of 0, of a power of two and of an `or`.
-use Rattle.std.proofs.Common.{◌≡◌, ℕ, zero, suc, ◌+◌, ◌-◌, ◌*◌, ◌/◌, ◌%◌, ◌^◌, ◌<◌, ◌≤◌, Bool, true, false, ◌&&◌, ◌||◌, eqb, ◌⊎◌, sym, refl, ap, ◌∙◌, ap₂, inl, inr, ⊎_elim, lt_of_lt_of_le, mod-lt, pow-suc, arith, pow_mono, pow-add}
+use Rattle.std.proofs.Common.{◌≡◌, ℕ, suc, ◌+◌, ◌-◌, ◌/◌, ◌%◌, ◌^◌, ◌<◌, ◌≤◌, Bool, true, false, ◌&&◌, ◌||◌, eqb, ◌⊎◌, sym, refl, ap, ◌∙◌, inl, inr, ⊎_elim, lt_of_lt_of_le, mod-lt, pow-suc, arith, pow_mono, pow-add}
 use native.Mathlib.Nat.{zero-div, div-eq_of_lt, mul-mod_left, div_self}
 use lib.Bits.{bit_or, bit_and, or_shr, or_mod, and_mask}
 use lib.Pow.{shl-shr}

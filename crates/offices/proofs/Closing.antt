@@ -1,5 +1,5 @@
 -- One pair more: the relation is closed again, stays an order, and is the same where the pair follows already.
-use Rattle.std.proofs.Common.{◌≡◌, ℕ, ◌<◌, ◌≤◌, Bool, true, false, ◌&&◌, ◌||◌, eqb, ltb, ◌⊎◌, List, sym, refl, ◌∙◌, subst, inl, inr, ⊎_elim, not-le_of_lt}
+use Rattle.std.proofs.Common.{◌≡◌, ℕ, ◌<◌, ◌≤◌, Bool, true, false, ◌&&◌, eqb, ltb, ◌⊎◌, List, sym, refl, ◌∙◌, subst, inl, inr, ⊎_elim, not-le_of_lt}
 use mathlib.Core.Path.{fun_ext}
 use Rattle.std.proofs.lemmas.Bool.{or_cases, or_left, or_right, and_parts, and_from, both_ways, cases_Bool, ltb-true, eqb-true, lt-ltb, eq-eqb}
 use Rattle.search.specs.Chains.{Chain, alone, onward, Reaches}

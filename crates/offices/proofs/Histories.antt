@@ -1,12 +1,10 @@
 -- What one event more says of the office drafted.
-use Rattle.std.proofs.Common.{◌≡◌, ℕ, ◌<◌, min, Bool, true, false, cond, ◌&&◌, ◌||◌, eqb, ltb, ◌⊎◌, List, [], ◌∷◌, ◌++◌, Ok, Err, sym, refl, ap, ◌∙◌, subst, inl, inr, ⊎_elim, append-nil, arith}
+use Rattle.std.proofs.Common.{◌≡◌, ℕ, ◌<◌, min, eqb, ◌⊎◌, List, [], ◌∷◌, ◌++◌, Ok, Err, sym, refl, ap, ◌∙◌, subst, inl, inr, ⊎_elim, append-nil, arith}
 use mathlib.Core.List.Memᴰ
 use mathlib.Core.List.{Memᴰ}
-use Rattle.std.proofs.lemmas.Bool.{or_cases, or_left, or_right, eqb-true, eq-eqb, and_parts, ltb-true, cases_Bool}
+use Rattle.std.proofs.lemmas.Bool.{or_cases, or_left, or_right, eqb-true, eq-eqb}
 use Rattle.answers.specs.declared.Refusal.{Refusal}
-use Rattle.answers.specs.declared.Refusal.TheVariants.{NoSuchRole, Circular}
 use Rattle.offices.specs.Model.{OfficeModel, SetModel}
-use Rattle.offices.specs.Order.{Closes, grown}
 use Rattle.offices.specs.Drafting.{Answer, Call, pair, share, exclude, Event, Accepted, Paired, Drafted, Keeps, fresh, set_told, sets_told, after_pair, after_mark, after_set}
 use Rattle.offices.proofs.Closing.{closes_none, closes_more, closes_same}
 

@@ -1,10 +1,10 @@
 -- The facts of an office have one proof at most, so they come out of a truncation.
-use Rattle.std.proofs.Common.{◌≡◌, ℕ, Bool, true, List, [], ◌∷◌}
+use Rattle.std.proofs.Common.{◌≡◌, ℕ, Bool, List, [], ◌∷◌}
 use mathlib.Core.Logic.{∥∥₁_elim}
 use denote.Struct.Props.{props}
 use Rattle.std.specs.List.{AllByRecursion as All}
 use Rattle.offices.specs.Order.{Order}
-use Rattle.offices.specs.Model.{SetModel, OfficeModel, Shaped, Lawful}
+use Rattle.offices.specs.Model.{SetModel, Shaped}
 use Rattle.offices.specs.Sets.{AllShaped, sets_of}
 use Rattle.offices.specs.declared.exclusive.ExclusiveSet.{ExclusiveSet}
 

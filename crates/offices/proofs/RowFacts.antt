@@ -1,8 +1,7 @@
 -- Rows of role sets, one written and the others kept; a row that is not there holds nobody.
-use Rattle.std.proofs.Common.{◌≡◌, ℕ, ◌<◌, ◌≤◌, Bool, false, List, length, get_or, set, replicate, sym, refl, ap, ◌∙◌, ⊎_elim}
+use Rattle.std.proofs.Common.{◌≡◌, ℕ, ◌<◌, ◌≤◌, false, List, length, set, replicate, ap, ◌∙◌, ⊎_elim}
 use Rattle.std.proofs.lemmas.List.{get_or_past, get_or-set_same, get_or-set_other, get_or-replicate, length-replicate}
 use Rattle.std.proofs.lemmas.Bool.{cases_lt}
-use Rattle.offices.specs.Word.{bit}
 use Rattle.offices.specs.Members.{holds, nobody, row_holds}
 use Rattle.offices.specs.declared.role_set.RoleSet.{RoleSet}
 use Rattle.offices.proofs.Bit.{bit_none}

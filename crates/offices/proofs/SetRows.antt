@@ -1,9 +1,8 @@
 -- What a table of exclusive sets answers.
-use Rattle.std.proofs.Common.{◌≡◌, ℕ, ◌<◌, ◌≤◌, List, [], ◌∷◌, map, length, get_or, take, Some, None, Option, sym, refl, ap, ◌∙◌, arith}
+use Rattle.std.proofs.Common.{◌≡◌, ℕ, ◌<◌, ◌≤◌, List, length, get_or, take, Some, None, ap, ◌∙◌, arith}
 use Rattle.std.specs.List.{slice_get}
 use Rattle.std.proofs.lemmas.Option.{slice_get-get_or, slice_get_past}
 use Rattle.std.proofs.lemmas.List.{length-map, length-take-le, get_or-map, get_or-take}
-use Rattle.offices.specs.Model.{SetModel, bound_of, member_of, bound_at, member_at}
 use Rattle.offices.specs.Sets.{set_model, sets_of}
 use Rattle.offices.specs.declared.exclusive.ExclusiveSet.{ExclusiveSet}
 

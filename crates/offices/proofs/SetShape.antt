@@ -1,13 +1,11 @@
 -- A set that passes the tests has the shape of an exclusive set.
-use Rattle.std.proofs.Common.{◌≡◌, ℕ, zero, suc, ◌+◌, ◌<◌, ◌≤◌, Bool, true, false, not, ◌&&◌, eqb, ltb, leb, ◌⊎◌, List, [], ◌∷◌, ◌++◌, map, length, get_or, take, set, Ok, Err, Result, sym, refl, ap, ◌∙◌, subst, inl, inr, arith}
+use Rattle.std.proofs.Common.{◌≡◌, ℕ, zero, suc, ◌+◌, ◌<◌, ◌≤◌, true, false, not, eqb, ltb, leb, List, [], ◌∷◌, ◌++◌, map, length, get_or, take, set, Ok, Err, sym, refl, ap, ◌∙◌, arith}
 use Rattle.std.specs.List.{AllByRecursion as All}
-use Rattle.std.proofs.lemmas.Bool.{and_parts, ltb-true, leb-true, eqb-true, eq-eqb, both_ways, not-true, lt-leb}
+use Rattle.std.proofs.lemmas.Bool.{and_parts, ltb-true, leb-true, eq-eqb, both_ways, not-true, lt-leb}
 use Rattle.std.proofs.lemmas.List.{take_more_set, map_push}
-use Rattle.std.proofs.ByRecursion.{All-push}
 use Rattle.offices.specs.Drafting.{missing, all_differ, all_below}
 use Rattle.offices.specs.Model.{SetModel, Shaped}
 use Rattle.offices.specs.Drafting.{good_set, set_answer}
-use Rattle.answers.specs.declared.Refusal.{Refusal}
 use Rattle.answers.specs.declared.Refusal.TheVariants.{NoSuchRole, BadSet}
 use Rattle.offices.specs.Sets.{set_model, sets_of}
 use Rattle.offices.specs.declared.exclusive.ExclusiveSet.{ExclusiveSet}

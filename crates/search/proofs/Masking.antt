@@ -1,7 +1,7 @@
 -- The shortest chains use only steps from nodes that are nearer than the target.
 use Rattle.std.proofs.Common.{◌≡◌, ℕ, ◌+◌, ◌<◌, ◌≤◌, Bool, true, ◌&&◌, ltb, List, length, get_or, arith}
 use Rattle.std.proofs.lemmas.Bool.{lt-ltb, and_from, and_parts}
-use Rattle.search.specs.Chains.{Chain, alone, onward, Best}
+use Rattle.search.specs.Chains.{Chain, alone, onward}
 use Rattle.search.specs.Asked.{Steps, Marked}
 use Rattle.search.specs.Arrivals.{Shortest}
 use Rattle.search.specs.Layers.{Layered, masked, marked}

@@ -1,11 +1,11 @@
 -- What the layers say of chains.
-use Rattle.std.proofs.Common.{◌≡◌, ℕ, zero, suc, ◌+◌, ◌-◌, ◌<◌, ◌≤◌, Bool, true, false, cond, eqb, ltb, ◌⊎◌, List, [], ◌∷◌, ◌++◌, length, get_or, sym, refl, ap, ◌∙◌, inl, inr, ⊎_elim, add-one, arith}
+use Rattle.std.proofs.Common.{◌≡◌, ℕ, zero, suc, ◌+◌, ◌<◌, ◌≤◌, Bool, true, false, eqb, ltb, ◌⊎◌, List, [], ◌∷◌, ◌++◌, length, get_or, sym, refl, ap, ◌∙◌, inl, inr, ⊎_elim, add-one, arith}
 use Rattle.std.proofs.lemmas.List.{length_push}
 use Rattle.std.proofs.lemmas.Bool.{cond-true, cond-false, cases_eq, cases_lt, cases_Bool, ltb-true, lt-ltb, le-ltb, eqb-false}
 use Rattle.search.specs.Chains.{Chain, alone, onward}
 use Rattle.search.specs.Asked.{Steps, Marked}
 use Rattle.search.specs.Arrivals.{Shortest, Arrives, Stops}
-use Rattle.search.specs.Layers.{Layered, Grown, Going, Begun, begins, at_layer, below_layer, marked}
+use Rattle.search.specs.Layers.{Layered, Grown, Going, Begun, at_layer, below_layer, marked}
 use Rattle.search.proofs.Tallies.{tally_none, tally_lt, tally_le, tally_same, tally_split, tally_zero}
 
 -- a chain has a node

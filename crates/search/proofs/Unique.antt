@@ -1,11 +1,8 @@
 -- The best chain, the counts and the outcome are the only ones.
-use Rattle.std.proofs.Common.{◌≡◌, ℕ, zero, suc, ◌+◌, ◌<◌, ◌≤◌, Bool, true, false, cond, ◌⊎◌, List, [], ◌∷◌, ◌++◌, length, drop, sym, refl, ap, ◌∙◌, inl, inr, ⊎_elim, arith}
-use Rattle.std.proofs.lemmas.Bool.{cases_Bool}
-use Rattle.search.specs.declared.Outcome.{Outcome}
+use Rattle.std.proofs.Common.{◌≡◌, ℕ, ◌≤◌, List, [], ◌∷◌, ◌++◌, length, drop, sym, refl, ap, ◌∙◌, ⊎_elim, arith}
 use Rattle.search.specs.declared.Outcome.TheVariants.{Found, NoChain, Unfit}
-use Rattle.search.specs.Chains.{Chain, Best, Before, Number, Nearer, Reached, tally}
+use Rattle.search.specs.Chains.{Best, Before, Number, Nearer, Reached}
 use Rattle.search.specs.Asked.{Steps, Marked}
-use Rattle.search.specs.Outcomes.{Searched}
 use Rattle.search.proofs.Tallies.{tally_mono}
 use Rattle.search.specs.Laws.{OneBest, OneNearer, OneReached, NearerFew, OneOutcome}
 

@@ -1,5 +1,5 @@
 -- Chains in a graph, the best of them, and how many nodes they lead to.
-use Rattle.std.specs.Prelude.{◌≡◌, ℕ, zero, suc, ◌+◌, ◌<◌, ◌≤◌, Bool, true, false, cond, ◌⊎◌, List, [], ◌∷◌, length, Decides}
+use Rattle.std.specs.Prelude.{◌≡◌, ℕ, zero, suc, ◌+◌, ◌<◌, ◌≤◌, Bool, cond, ◌⊎◌, List, [], ◌∷◌, length, Decides}
 
 -- xs is a chain from a to b: each node is reached from the one before by a step S, and one node alone is a chain
 pub data Chain (S : ℕ → ℕ → Type 0) : ℕ → ℕ → List ℕ → Type 0 where

@@ -1,5 +1,5 @@
 -- Distances from the starts, layer by layer, in a list: 65535 stands for none yet.
-use Rattle.std.specs.Prelude.{◌≡◌, ℕ, ◌+◌, ◌-◌, ◌<◌, ◌≤◌, Bool, true, false, cond, ◌&&◌, ltb, ◌⊎◌, List, length, ◌==◌, ◌≢◌, nat_eq, nat_lt, slice_index, slice_index_or}
+use Rattle.std.specs.Prelude.{◌≡◌, ℕ, ◌+◌, ◌<◌, ◌≤◌, Bool, true, false, cond, ◌&&◌, ltb, ◌⊎◌, List, length, ◌==◌, ◌≢◌, nat_eq, nat_lt, slice_index, slice_index_or}
 use Rattle.search.specs.Chains.{tally}
 
 -- the steps turned round

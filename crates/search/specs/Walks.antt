@@ -1,5 +1,5 @@
 -- The walk to the target: at each place the smallest node that is one step nearer.
-use Rattle.std.specs.Prelude.{◌≡◌, ℕ, ◌+◌, ◌-◌, ◌<◌, ◌≤◌, Bool, true, false, List, ◌++◌, length, drop, slice_index}
+use Rattle.std.specs.Prelude.{◌≡◌, ℕ, ◌+◌, ◌-◌, ◌<◌, ◌≤◌, Bool, true, List, ◌++◌, length, drop, slice_index}
 use Rattle.search.specs.Chains.{Best}
 
 -- r is the smallest number below n that has P

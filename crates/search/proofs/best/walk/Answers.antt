@@ -1,4 +1,4 @@
-use Rattle.std.proofs.Common.{◌≡◌, ℕ, ◌+◌, ◌-◌, ◌<◌, ◌≤◌, List, length, get_or, set, sym, ◌∙◌, subst, arith, length-set, get_or-set_same}
+use Rattle.std.proofs.Common.{◌≡◌, ℕ, ◌+◌, ◌-◌, get_or, set, sym, subst, arith, length-set, get_or-set_same}
 use Rattle.search.specs.Layers.{marked}
 use Rattle.search.specs.Walks.{Walked, Least, Starting}
 use Rattle.search.proofs.Walking.{walked_none, walked_more, walked_old, walked_at}

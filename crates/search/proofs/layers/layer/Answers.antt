@@ -1,4 +1,4 @@
-use Rattle.std.proofs.Common.{◌≡◌, ℕ, ◌+◌, ◌<◌, ◌≤◌, Bool, List, sym, ap, ◌∙◌, subst, arith}
+use Rattle.std.proofs.Common.{◌≡◌, ℕ, ◌+◌, List, sym, subst, arith}
 use Rattle.search.specs.Layers.{Turning}
 use Rattle.search.proofs.Spreads.{turning_none, turning_more, turning_skip, partial_all}
 use Rattle.search.proofs.layers.layer.Goals as goal

@@ -1,4 +1,4 @@
-use Rattle.std.proofs.Common.{◌≡◌, ℕ, ◌+◌, ◌<◌, ◌≤◌, get_or, sym, ◌∙◌, subst, ⊎_elim, arith}
+use Rattle.std.proofs.Common.{◌≡◌, ℕ, ◌+◌, ◌≤◌, get_or, sym, ◌∙◌, subst, ⊎_elim, arith}
 use Rattle.search.specs.Arrivals.{Arrives, Stops}
 use Rattle.search.specs.Layers.{marked}
 use Rattle.search.proofs.Reaching.{going_none, going_more, going_room, arrives, stops}

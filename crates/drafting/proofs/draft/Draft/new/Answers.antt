@@ -1,4 +1,4 @@
-use Rattle.std.proofs.Common.{◌≡◌, [], sym, ap, ◌∙◌, subst}
+use Rattle.std.proofs.Common.{[], sym, ap, ◌∙◌, subst}
 use Rattle.offices.specs.Bases.{base_roles, office_with}
 use Rattle.offices.specs.Order.{within, itself_alone}
 use Rattle.offices.specs.Drafting.{Drafted}

@@ -1,14 +1,13 @@
-use Rattle.std.proofs.Common.{◌≡◌, ℕ, ◌<◌, ◌≤◌, Bool, true, false, Ok, Err, sym, refl, ap, ◌∙◌, subst, ⊎_elim, arith}
+use Rattle.std.proofs.Common.{◌≡◌, ℕ, ◌<◌, ◌≤◌, Bool, true, false, Ok, sym, refl, ap, ◌∙◌, ⊎_elim, arith}
 use Rattle.std.proofs.lemmas.Bool.{cases_Bool}
-use Rattle.answers.specs.declared.Refusal.{Refusal}
 use Rattle.answers.specs.declared.Refusal.TheVariants.{NoSuchRole, Circular}
-use Rattle.offices.specs.Order.{Order, within, grown}
+use Rattle.offices.specs.Order.{within, grown}
 use Rattle.offices.specs.Bases.{base_roles, office_with}
 use Rattle.offices.specs.Drafting.{pair}
 use Rattle.offices.proofs.Closing.{grown_same}
 use Rattle.offices.proofs.Histories.{keeps_refused, keeps_pair, keeps_to}
 use Rattle.offices.proofs.PairAnswers.{answer_senior, answer_junior, answer_same, answer_follows}
-use Rattle.drafting.specs.Keeping.{Either, settled}
+use Rattle.drafting.specs.Keeping.{Either}
 use Rattle.drafting.specs.Models.{office_of}
 use Rattle.drafting.specs.Within.{within_at, within_order, answer_kept, not_settled, settled_senior, settled_junior, settled_same, settled_known, office_after}
 use Rattle.drafting.proofs.draft.Draft.pair.Goals as goal

@@ -1,9 +1,9 @@
-use Rattle.std.proofs.Common.{◌≡◌, ℕ, ◌<◌, Bool, ◌&&◌, ◌||◌, eqb, ltb, Ok, Err, sym, refl, ap, ◌∙◌, subst, arith, rules}
+use Rattle.std.proofs.Common.{◌≡◌, ℕ, ◌<◌, Bool, ◌&&◌, ◌||◌, eqb, Ok, Err, refl, ap, ◌∙◌, arith}
 use mathlib.Core.Path.{fun_ext}
 use Rattle.std.proofs.lemmas.Bool.{lt-ltb, cond_below, cond_above}
 use Rattle.answers.specs.declared.Refusal.TheVariants.{NoSuchRole}
 use Rattle.offices.specs.Model.{OfficeModel}
-use Rattle.offices.specs.Drafting.{Keeps, share, mark_answer, after_mark}
+use Rattle.offices.specs.Drafting.{share}
 use Rattle.offices.specs.Bases.{office_with, base_sets}
 use Rattle.offices.specs.Members.{holds}
 use Rattle.offices.proofs.Bit.{and_true}
@@ -18,7 +18,7 @@ returns-then-role-self c = record {
   kept = refl;
 }
 
-marked_more : (c : goal.After-self·1) (a : ℕ) → holds c.with-self.result a ≡ (holds c.args.self.now.shared a || eqb a c.args.role)
+marked_more : (c : goal.After-self-1) (a : ℕ) → holds c.with-self.result a ≡ (holds c.args.self.now.shared a || eqb a c.args.role)
 marked_more c a =
     let small : c.args.role < 64 = omega (arith, c.args.self.now.table.few) in
     c.with-self.ensures a

@@ -1,4 +1,4 @@
-use Rattle.std.proofs.Common.{◌∙◌, arith}
+use Rattle.std.proofs.Common.{arith}
 use Rattle.offices.specs.Members.{common_roles}
 use Rattle.offices.proofs.Scanning.{ones_common}
 use Rattle.offices.proofs.role_set.RoleSet.common.Goals as goal

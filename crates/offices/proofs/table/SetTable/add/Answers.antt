@@ -1,4 +1,4 @@
-use Rattle.std.proofs.Common.{◌≡◌, ◌<◌, [], ◌∷◌, ◌++◌, length, sym, refl, ap, ◌∙◌, subst, arith, rules}
+use Rattle.std.proofs.Common.{[], ◌∷◌, ◌++◌, sym, refl, ap, ◌∙◌, subst, arith, rules}
 use Rattle.offices.specs.Model.{Shaped}
 use Rattle.offices.specs.Sets.{sets_of, set_model}
 use Rattle.std.specs.List.{AllByRecursion as All}
@@ -34,20 +34,15 @@ exclusive_set-set-requires c = good_few c.args.members.now c.args.bound (sym c.i
 pub invariant_of-self : goal.invariant_of-self
 invariant_of-self c =
     let d = c.args.self.now in
-    let new = subst (Shaped d.roles) (sym c.exclusive_set-set.ensures) (shaped_good d.roles c.args.members.now c.args.bound (sym c.if-not-well_formed.ensures) (sym c.if-not-exist.ensures)) in (
-      d.few,
-      (
-        search rules,
-        (
-          search rules,
-          (
-            ∣ subst (All (Shaped d.roles)) (sym (sets_push d.count d.sets c.exclusive_set-set.result (omega arith)))
-                (All-push (Shaped d.roles) (sets_of d.count d.sets) (set_model c.exclusive_set-set.result) (shaped_from d.roles d.count d.sets d.shaped) new) ∣₁,
-            tt,
-          ),
-        ),
-      ),
-    )
+    let new = subst (Shaped d.roles) (sym c.exclusive_set-set.ensures) (shaped_good d.roles c.args.members.now c.args.bound (sym c.if-not-well_formed.ensures) (sym c.if-not-exist.ensures)) in
+    record {
+      few = d.few;
+      eight = search rules;
+      room = search rules;
+      shaped =
+          ∣ subst (All (Shaped d.roles)) (sym (sets_push d.count d.sets c.exclusive_set-set.result (omega arith)))
+          (All-push (Shaped d.roles) (sets_of d.count d.sets) (set_model c.exclusive_set-set.result) (shaped_from d.roles d.count d.sets d.shaped) new) ∣₁;
+    }
 
 pub returns : goal.returns
 returns c =

@@ -1,4 +1,4 @@
-use Rattle.std.proofs.Common.{◌≡◌, ℕ, ◌≤◌, min, sym, ap, ◌∙◌, subst, arith}
+use Rattle.std.proofs.Common.{sym, ap, ◌∙◌, subst, arith}
 use Rattle.std.specs.List.{AllByRecursion as All}
 use Rattle.offices.specs.Bases.{table_sets}
 use Rattle.offices.specs.Model.{Shaped}
@@ -10,20 +10,15 @@ use Rattle.offices.proofs.table.SetTable.fit.Goals as goal
 pub invariant_of-self : goal.invariant_of-self
 invariant_of-self c =
     let d = c.args.self.now in
-    let roles = c.at_most_64-roles.result in (
-      omega (arith, c.at_most_64-roles.ensures),
-      (
-        c.keeping-keep.ensures.few,
-        (
-          d.room,
-          (
-            ∣ subst (All (Shaped roles)) (sym c.keeping-keep.ensures.sets)
-                (fitted_shaped d.roles roles c.args.room (table_sets d) (shaped_from d.roles d.count d.sets d.shaped)) ∣₁,
-            tt,
-          ),
-        ),
-      ),
-    )
+    let roles = c.at_most_64-roles.result in
+    record {
+      few = omega (arith, c.at_most_64-roles.ensures);
+      eight = c.keeping-keep.ensures.few;
+      room = d.room;
+      shaped =
+          ∣ subst (All (Shaped roles)) (sym c.keeping-keep.ensures.sets)
+          (fitted_shaped d.roles roles c.args.room (table_sets d) (shaped_from d.roles d.count d.sets d.shaped)) ∣₁;
+    }
 
 pub returns : goal.returns
 returns c =
