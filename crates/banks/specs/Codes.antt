@@ -1,5 +1,5 @@
 -- The codes of a bank's roles.
-use Rattle.std.specs.Prelude.{ℕ, ◌+◌, ◌*◌, ◌/◌, ◌%◌, ◌<◌, cond, List, Some, None, Option, nat_lt}
+use Rattle.std.specs.Prelude.{ℕ, ◌+◌, ◌*◌, ◌/◌, ◌%◌, cond, List, Some, None, Option, nat_lt}
 use Rattle.offices.specs.Model.{OfficeModel}
 use Rattle.banks.specs.Banks.{office_at}
 use Rattle.banks.specs.declared.codes.RoleAt.{RoleAt}

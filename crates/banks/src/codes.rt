@@ -12,7 +12,7 @@ pub struct RoleAt {
 
 // The code of a role: its office number × 64 plus its role number.
 pub fn code_of<B: Bank>(bank: &B, office: u8, role: u8) -> Option<u16>
-    ensures { result ≡ code_answer (offices bank.now) office role }
+    ensures { result ≡ code_answer (B.offices bank.now) office role }
 {
     if role >= bank.role_count(office) {
         return None;
@@ -22,7 +22,7 @@ pub fn code_of<B: Bank>(bank: &B, office: u8, role: u8) -> Option<u16>
 
 // The role that has this code.
 pub fn role_at<B: Bank>(bank: &B, code: u32) -> Option<RoleAt>
-    ensures { result ≡ role_answer (offices bank.now) code }
+    ensures { result ≡ role_answer (B.offices bank.now) code }
 {
     if code >= 1024 {
         return None;

@@ -1,6 +1,6 @@
 -- A lawful set is accepted.
 use Rattle.std.proofs.Common.{◌≡◌, ℕ, zero, suc, ◌+◌, ◌<◌, ◌≤◌, Bool, true, false, not, ◌&&◌, eqb, ltb, leb, List, [], ◌∷◌, ◌++◌, length, get_or, take, Ok, Err, sym, refl, ap, ◌∙◌, subst, ap₂, arith}
-use Rattle.std.specs.List.{AllByRecursion as All}
+use Rattle.std.specs.List.{AllByRecursion}
 use Rattle.std.proofs.lemmas.List.{take_more, length-take-le}
 use Rattle.std.proofs.ByRecursion.{All-get_or}
 use Rattle.std.proofs.lemmas.Bool.{and_from, not_from_false, ne_eqb, lt-ltb, le-leb}
@@ -23,7 +23,7 @@ differ_from (x ∷ xs) h =
     (missing_from x xs (λ i l e. let z : suc i ≡ 0 = h (suc i) 0 (omega arith) (omega arith) e in omega arith))
     (differ_from xs (λ p q l k e. let z : suc p ≡ suc q = h (suc p) (suc q) (omega arith) (omega arith) e in omega arith))
 
-below_from : (n : ℕ) (xs : List ℕ) → All (λ r. r < n) xs → all_below n xs ≡ true
+below_from : (n : ℕ) (xs : List ℕ) → AllByRecursion (λ r. r < n) xs → all_below n xs ≡ true
 below_from n [] h = refl
 below_from n (x ∷ xs) h = and_from (ltb x n) (all_below n xs) (lt-ltb x n h.0) (below_from n xs h.1)
 
@@ -39,7 +39,7 @@ module _ (n : ℕ) (s : SetModel) (h : Shaped n s) where
   accepted own room = sym (answer_ok n own s.members s.bound room good (below_from n s.members h.exist))
 
 -- set k after those before it
-module _ (n : ℕ) (sets : List SetModel) (shaped : All (Shaped n) sets) (eight : length sets ≤ 8) (k : ℕ) (there : k < length sets) where
+module _ (n : ℕ) (sets : List SetModel) (shaped : AllByRecursion (Shaped n) sets) (eight : length sets ≤ 8) (k : ℕ) (there : k < length sets) where
   pub set_added : (roles : ℕ) (own after : List SetModel) (ms : List ℕ) (t : ℕ) (r : Answer) → roles ≡ n → own ≡ take k sets → ms ≡ members_at sets k → t ≡ bound_at sets k → r ≡ set_answer roles own ms t → after ≡ with_set r own ms t → after ≡ take (k + 1) sets
   set_added roles own after ms t r er eo em et answer e =
       let s = get_or sets k no_set in

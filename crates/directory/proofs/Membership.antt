@@ -1,6 +1,6 @@
 -- The members of the sets of an office.
 use Rattle.std.proofs.Common.{◌≡◌, ℕ, zero, suc, ◌+◌, ◌<◌, ◌≤◌, Bool, true, false, ◌||◌, eqb, List, [], ◌∷◌, ◌++◌, length, get_or, Some, None, Option, sym, refl, ap, ◌∙◌, ⊎_elim, arith}
-use Rattle.std.specs.List.{slice_get, AllByRecursion as All}
+use Rattle.std.specs.List.{slice_get, AllByRecursion}
 use Rattle.std.proofs.lemmas.Option.{slice_get-get_or, slice_get_past}
 use Rattle.std.proofs.lemmas.Bool.{cases_lt, false≢true, or_left, or_right, or_cases, eq-eqb, eqb-true}
 use Rattle.offices.specs.Model.{SetModel, Shaped, bound_at, member_at}
@@ -20,12 +20,12 @@ bound_get_or (s ∷ ss) zero = refl
 bound_get_or (s ∷ ss) (suc k) = bound_get_or ss k
 
 module _ (n : ℕ) where
-  pub members_few : (sets : List SetModel) → All (Shaped n) sets → (k : ℕ) → length (members_at sets k) ≤ 8
+  pub members_few : (sets : List SetModel) → AllByRecursion (Shaped n) sets → (k : ℕ) → length (members_at sets k) ≤ 8
   members_few [] a k = omega arith
   members_few (s ∷ ss) a zero = a.0.most
   members_few (s ∷ ss) a (suc k) = members_few ss a.1 k
 
-  pub members_exist : (sets : List SetModel) → All (Shaped n) sets → (k : ℕ) → All (λ r. r < n) (members_at sets k)
+  pub members_exist : (sets : List SetModel) → AllByRecursion (Shaped n) sets → (k : ℕ) → AllByRecursion (λ r. r < n) (members_at sets k)
   members_exist [] a k = tt
   members_exist (s ∷ ss) a zero = a.0.exist
   members_exist (s ∷ ss) a (suc k) = members_exist ss a.1 k

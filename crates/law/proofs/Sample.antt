@@ -1,6 +1,6 @@
 -- The sample bank is lawful.
 use Rattle.std.proofs.Common.{◌≡◌, ℕ, zero, suc, ◌<◌, ◌≤◌, Bool, true, false, not, ◌&&◌, ◌||◌, eqb, ltb, ◌⊎◌, List, [], ◌∷◌, length, get_or, sym, refl, ◌∙◌, subst, inl, inr, arith}
-use Rattle.std.specs.List.{AllByRecursion as All}
+use Rattle.std.specs.List.{AllByRecursion}
 use Rattle.std.proofs.lemmas.List.{get_or_past}
 use Rattle.std.proofs.lemmas.Bool.{and_parts, or_cases, eqb-true, ltb-true, not-true, false≢true, both_ways, cases_lt}
 use Rattle.offices.specs.Model.{OfficeModel, SetModel, Shaped, Lawful}
@@ -19,7 +19,7 @@ module _ (rows : List (List ℕ)) (marks : List ℕ) (sets : List SetModel) wher
   abbrev orderly_at : ℕ → Bool
   orderly_at a = (among a (row a) && all (λ b. ltb b (length rows)) (row a)) && all (λ b. (eqb a b || not (among a (row b))) && all (λ c. among c (row a)) (row b)) (row a)
 
-  lawful_by : length rows ≤ 64 → all orderly_at (upto (length rows)) ≡ true → all (λ a. ltb a (length rows)) marks ≡ true → length sets ≤ 8 → All (Shaped (length rows)) sets → Lawful (listed rows marks sets)
+  lawful_by : length rows ≤ 64 → all orderly_at (upto (length rows)) ≡ true → all (λ a. ltb a (length rows)) marks ≡ true → length sets ≤ 8 → AllByRecursion (Shaped (length rows)) sets → Lawful (listed rows marks sets)
   lawful_by few e shares eight shaped = record {
     few = few;
     order = record {

@@ -1,12 +1,11 @@
 -- The sets of an office with house rules.
-use Rattle.std.specs.Prelude.{◌≡◌, ℕ, zero, suc, ◌+◌, ◌-◌, ◌<◌, ◌≤◌, min, Bool, true, false, cond, leb, ◌⊎◌, List, [], ◌∷◌, ◌++◌, length, get_or, take, Some, None, Option, refl}
+use Rattle.std.specs.Prelude.{◌≡◌, ℕ, zero, suc, ◌+◌, ◌-◌, ◌<◌, ◌≤◌, min, ◌⊎◌, List, [], ◌∷◌, ◌++◌, length, take, None, refl}
 use Rattle.std.proofs.Common.{sym, ap, ◌∙◌, append-nil, inl, inr, ⊎_elim, arith, zero-add, suc-add}
-use Rattle.std.specs.List.{slice_get, AllByRecursion as All}
-use Rattle.std.proofs.lemmas.Option.{slice_get-get_or, slice_get_past}
-use Rattle.std.proofs.lemmas.Bool.{cases_lt, le-leb, lt-leb, leb-true, cases_Bool}
-use Rattle.std.proofs.lemmas.List.{length-append, length-take, get_or-take, get_or_append_left, get_or-append_right}
-use Rattle.std.proofs.ByRecursion.{All-append, All-take, All-weaker}
-use Rattle.offices.specs.Order.{Order}
+use Rattle.std.specs.List.{slice_get, AllByRecursion}
+use Rattle.std.proofs.lemmas.Option.{slice_get_past}
+use Rattle.std.proofs.lemmas.Bool.{cases_lt}
+use Rattle.std.proofs.lemmas.List.{length-append, length-take}
+use Rattle.std.proofs.ByRecursion.{All-append}
 use Rattle.offices.specs.Model.{OfficeModel, SetModel, Shaped, Lawful}
 use Rattle.layers.specs.Layers.{fitting, house_model}
 use Rattle.offices.proofs.Fitted as F
@@ -58,7 +57,7 @@ module _ (m : OfficeModel) (n : ℕ) (own : List SetModel) where
   no_set k l h (inl f) = slice_get_past (house_model m n own).sets k (omega (arith, length_house l))
   no_set k l h (inr f) = slice_get_past (house_model m n own).sets k (omega (arith, length_not f))
 
-  pub house_lawful : Lawful m → All (Shaped n) own → Lawful (house_model m n own)
+  pub house_lawful : Lawful m → AllByRecursion (Shaped n) own → Lawful (house_model m n own)
   house_lawful w own-shaped = record {
     few = w.few;
     order = w.order;

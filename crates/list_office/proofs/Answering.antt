@@ -1,9 +1,9 @@
 -- What the search says of a list of pairs is its seniority.
-use Rattle.std.proofs.Common.{◌≡◌, ℕ, ◌<◌, ◌≤◌, Bool, true, false, ◌≢◌, ◌⊎◌, List, length, get_or, set, replicate, Ok, Err, sym, refl, ap, ◌∙◌, subst, inl, inr, ⊎_elim, arith, length-set}
+use Rattle.std.proofs.Common.{◌≡◌, ℕ, ◌<◌, ◌≤◌, Bool, true, false, ◌⊎◌, List, length, get_or, set, replicate, Ok, Err, sym, ap, ◌∙◌, subst, inr, ⊎_elim, arith, length-set}
 use Rattle.std.proofs.lemmas.List.{get_or-set_same, get_or-set_other, get_or-replicate, get_or_past, length-replicate}
 use Rattle.std.proofs.lemmas.Bool.{cases_Bool, cases_eq, cases_lt, false≢true}
-use Rattle.search.specs.Chains.{Chain, Reaches, Reached, Best}
-use Rattle.search.specs.Asked.{Steps, Marked}
+use Rattle.search.specs.Chains.{Reaches}
+use Rattle.search.specs.Asked.{Steps}
 use Rattle.search.specs.Outcomes.{Fitting, Finds, Misses}
 use Rattle.offices.specs.Order.{Closes}
 use Rattle.offices.specs.Drafting.{Answer, over_after}

@@ -1,9 +1,9 @@
 -- One pair more in a list; its seniority is the closure of its pairs.
-use Rattle.std.proofs.Common.{◌≡◌, ℕ, ◌+◌, ◌<◌, ◌≤◌, Bool, true, false, ◌&&◌, ◌||◌, eqb, ltb, ◌⊎◌, List, [], ◌∷◌, ◌++◌, length, get_or, set, fold, sym, refl, ap, ◌∙◌, subst, ap₂, inl, inr, ⊎_elim, arith}
+use Rattle.std.proofs.Common.{◌≡◌, ℕ, ◌<◌, Bool, true, false, ◌&&◌, ◌||◌, eqb, ltb, ◌⊎◌, List, [], ◌∷◌, ◌++◌, length, set, fold, sym, refl, ap, ◌∙◌, subst, ap₂, inl, inr, ⊎_elim}
 use Rattle.std.proofs.lemmas.List.Sums.{fold_push}
-use Rattle.std.proofs.lemmas.Bool.{or_cases, or_left, or_right, and_parts, and_from, eqb-true, eq-eqb, ne_eqb, lt-ltb, cases_eq, cases_Bool, false≢true}
+use Rattle.std.proofs.lemmas.Bool.{or_cases, or_left, or_right, and_parts, and_from, eqb-true, eq-eqb, ne_eqb, lt-ltb, cases_eq, false≢true}
 use Rattle.offices.specs.Order.{Order, Closes, itself_alone, grown}
-use Rattle.offices.specs.Members.{holds, nobody, row_holds}
+use Rattle.offices.specs.Members.{holds, row_holds}
 use Rattle.offices.specs.declared.role_set.RoleSet.{RoleSet}
 use Rattle.offices.proofs.Bit.{or_false, and_true}
 use Rattle.offices.proofs.Closing.{alone_order, closes_none, closes_more, closes_same, grown_order}

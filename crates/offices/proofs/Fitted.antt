@@ -1,6 +1,6 @@
 -- The sets that fit keep their shape.
 use Rattle.std.proofs.Common.{◌≡◌, ℕ, ◌<◌, ◌≤◌, cond, List, [], map, length, take, sym, ap, ◌∙◌, ⊎_elim, arith}
-use Rattle.std.specs.List.{AllByRecursion as All}
+use Rattle.std.specs.List.{AllByRecursion}
 use Rattle.std.proofs.lemmas.Bool.{cases_lt, le-leb, lt-leb}
 use Rattle.std.proofs.lemmas.List.{take-map, take-take, take_all}
 use Rattle.std.proofs.ByRecursion.{All-take, All-weaker}
@@ -26,7 +26,7 @@ module _ (n r room : ℕ) (own : List SetModel) where
     differ = h.differ;
   }
 
-  pub fitted_shaped : All (Shaped n) own → All (Shaped r) (fitted n r room own)
+  pub fitted_shaped : AllByRecursion (Shaped n) own → AllByRecursion (Shaped r) (fitted n r room own)
   fitted_shaped h =
       ⊎_elim
       (λ (f : r < n). rw (fits_not f) tt)

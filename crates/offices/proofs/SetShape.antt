@@ -1,6 +1,6 @@
 -- A set that passes the tests has the shape of an exclusive set.
 use Rattle.std.proofs.Common.{◌≡◌, ℕ, zero, suc, ◌+◌, ◌<◌, ◌≤◌, true, false, not, eqb, ltb, leb, List, [], ◌∷◌, ◌++◌, map, length, get_or, take, set, Ok, Err, sym, refl, ap, ◌∙◌, arith}
-use Rattle.std.specs.List.{AllByRecursion as All}
+use Rattle.std.specs.List.{AllByRecursion}
 use Rattle.std.proofs.lemmas.Bool.{and_parts, ltb-true, leb-true, eq-eqb, both_ways, not-true, lt-leb}
 use Rattle.std.proofs.lemmas.List.{take_more_set, map_push}
 use Rattle.offices.specs.Drafting.{missing, all_differ, all_below}
@@ -10,7 +10,7 @@ use Rattle.answers.specs.declared.Refusal.TheVariants.{NoSuchRole, BadSet}
 use Rattle.offices.specs.Sets.{set_model, sets_of}
 use Rattle.offices.specs.declared.exclusive.ExclusiveSet.{ExclusiveSet}
 
-exist : (n : ℕ) (ms : List ℕ) → all_below n ms ≡ true → All (λ r. r < n) ms
+exist : (n : ℕ) (ms : List ℕ) → all_below n ms ≡ true → AllByRecursion (λ r. r < n) ms
 exist n [] h = tt
 exist n (x ∷ xs) h = let p = and_parts (ltb x n) (all_below n xs) h in (ltb-true x n p.0, exist n xs p.1)
 

@@ -1,6 +1,6 @@
 -- What an office is to everything above it: its answers to six questions, and the laws that they keep.
 use Rattle.std.specs.Prelude.{◌≡◌, ℕ, ◌<◌, ◌≤◌, Bool, true, List, length, Some, None, Option, slice_index}
-use Rattle.std.specs.List.{slice_get, AllByRecursion as All}
+use Rattle.std.specs.List.{slice_get, AllByRecursion}
 use Rattle.offices.specs.Order.{Order}
 
 -- an exclusive set: its roles in their fixed order, and its bound
@@ -37,7 +37,7 @@ pub record Shaped (n : ℕ) (s : SetModel) : Type 0 where
   pub most : length s.members ≤ 8
   pub low : 2 ≤ s.bound
   pub high : s.bound ≤ length s.members
-  pub exist : All (λ r. r < n) s.members
+  pub exist : AllByRecursion (λ r. r < n) s.members
   pub differ : (p q : ℕ) → p < length s.members → q < length s.members → slice_index s.members p ≡ slice_index s.members q → p ≡ q
 
 -- the laws of every office
@@ -46,4 +46,4 @@ pub record Lawful (m : OfficeModel) : Type 0 where
   pub order : Order m.roles m.over
   pub marks : (a : ℕ) → m.shared a ≡ true → a < m.roles
   pub eight : length m.sets ≤ 8
-  pub shaped : All (Shaped m.roles) m.sets
+  pub shaped : AllByRecursion (Shaped m.roles) m.sets

@@ -1,6 +1,6 @@
 -- The exclusive sets that a table holds.
 use Rattle.std.specs.Prelude.{ℕ, cond, List, [], map, take, nat_le}
-use Rattle.std.specs.List.{AllByRecursion as All}
+use Rattle.std.specs.List.{AllByRecursion}
 use Rattle.offices.specs.Model.{SetModel, Shaped}
 use Rattle.offices.specs.declared.exclusive.ExclusiveSet.{ExclusiveSet}
 
@@ -11,7 +11,7 @@ abbrev pub sets_of : ℕ → List ExclusiveSet → List SetModel
 sets_of count xs = map set_model (take count xs)
 
 abbrev pub AllShaped : ℕ → ℕ → List ExclusiveSet → Type 0
-AllShaped roles count xs = All (Shaped roles) (sets_of count xs)
+AllShaped roles count xs = AllByRecursion (Shaped roles) (sets_of count xs)
 
 -- of sets made for n roles, those that fit r roles and the room
 abbrev pub fitted : ℕ → ℕ → ℕ → List SetModel → List SetModel

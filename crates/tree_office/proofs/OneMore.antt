@@ -1,5 +1,5 @@
 -- A tree with one direct senior more.
-use Rattle.std.proofs.Common.{◌≡◌, ℕ, ◌<◌, true, false, length, set, Some, None, sym, subst, arith}
+use Rattle.std.proofs.Common.{◌≡◌, ℕ, ◌<◌, true, false, length, set, Some, None, subst, arith}
 use Rattle.std.proofs.lemmas.Bool.{both_ways}
 use Rattle.offices.specs.Order.{grown}
 use Rattle.tree_office.specs.declared.tree.Tree.{Tree}

@@ -1,14 +1,14 @@
 -- A relation that keeps the law of a tree is found by climbing.
-use Rattle.std.specs.Prelude.{◌≡◌, ℕ, zero, suc, ◌+◌, ◌-◌, ◌<◌, ◌≤◌, Bool, true, false, ◌&&◌, ◌||◌, ◌⊎◌, List, length, is_some, Some, None, Ok, Option, ◌==◌, ◌≢◌, nat_lt, slice_set}
+use Rattle.std.specs.Prelude.{◌≡◌, ℕ, zero, suc, ◌-◌, ◌<◌, ◌≤◌, Bool, true, false, ◌&&◌, ◌||◌, List, length, is_some, Some, None, Ok, Option, ◌==◌, ◌≢◌, nat_lt, slice_set}
 use Rattle.std.proofs.Math.Path.{refl, sym, ap, fun_ext}
-use Rattle.std.proofs.Common.{ap₂, subst, ◌∙◌, inl, inr, ⊎_elim}
+use Rattle.std.proofs.Common.{ap₂, subst, ◌∙◌, ⊎_elim}
 use Rattle.std.proofs.Math.Logic.{∥∥₁_elim}
 use denote.Struct.Props.{props}
 use Rattle.offices.proofs.Props.{order_prop}
 use native.Mathlib.Omega.{arith}
 use Rattle.std.proofs.lemmas.List.{get_or-set_same, get_or-set_other}
 use Rattle.offices.proofs.Bit.{or_false}
-use Rattle.std.proofs.lemmas.Bool.{and_from, and_right, cond-true, cond-false, cases_Bool, both_ways, or_right, or_left, lt-ltb, le-ltb, cases_lt, eqb-true, eq-eqb, ne_eqb, cases_eq}
+use Rattle.std.proofs.lemmas.Bool.{and_from, and_right, cond-true, cond-false, cases_Bool, both_ways, or_right, lt-ltb, le-ltb, cases_lt, eq-eqb, ne_eqb, cases_eq}
 use Rattle.offices.specs.Order.{Order, grown, itself_alone}
 use Rattle.offices.proofs.Closing.{grown_order, alone_order}
 use Rattle.tree_office.specs.Climb.{on, climb, senior_of, tree_over, TreeLaw, Grows}

@@ -1,9 +1,8 @@
-use Rattle.std.proofs.Common.{◌≡◌, ℕ, ◌/◌, ◌%◌, ◌≤◌, false, cond, ltb, length, Some, None, Option, refl, ap, arith}
+use Rattle.std.proofs.Common.{◌≡◌, ◌≤◌, length, Some, None, refl, ap, arith}
 use Rattle.std.proofs.lemmas.List.{get_or_past}
-use Rattle.std.proofs.lemmas.Bool.{le-ltb, cond_above}
+use Rattle.std.proofs.lemmas.Bool.{cond_above}
 use Rattle.banks.specs.Banks.{no_office, office_at}
 use Rattle.banks.specs.Codes.{office_of, role_of}
-use Rattle.banks.specs.declared.codes.RoleAt.{RoleAt}
 use Rattle.banks.proofs.codes.role_at.Goals as goal
 
 pub returns-then-code-ge1024 : goal.returns-then-code-ge1024

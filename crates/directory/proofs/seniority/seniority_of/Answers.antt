@@ -10,7 +10,7 @@ use Rattle.directory.proofs.seniority.seniority_of.Goals as goal
 pub loop-senior-init : goal.loop-senior-init
 loop-senior-init g c =
     let over = (office_at (g.B.Bank.offices c.args.bank.now) c.args.office).over in
-    (refl, λ a b. row_replicate 64 c.empty_rows.result a b c.empty_rows.ensures ∙ gathered_none (λ x. over x b) a)
+    (refl, λ a b. row_replicate 64 c.empty-rows.result a b c.empty-rows.ensures ∙ gathered_none (λ x. over x b) a)
 
 pub loop-senior-preserved : goal.loop-senior-preserved
 loop-senior-preserved g c =

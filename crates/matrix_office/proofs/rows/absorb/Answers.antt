@@ -1,4 +1,4 @@
-use Rattle.std.proofs.Common.{◌<◌, ◌≤◌, ap, ◌∙◌, ⊎_elim, arith}
+use Rattle.std.proofs.Common.{◌≤◌, ap, ◌∙◌, ⊎_elim, arith}
 use Rattle.offices.specs.Members.{holds}
 use Rattle.std.proofs.lemmas.Bool.{cases_lt}
 use Rattle.matrix_office.proofs.Joined.{joined_past}

@@ -1,4 +1,4 @@
-use Rattle.std.proofs.Common.{◌≡◌, ℕ, ◌<◌, ◌≤◌, ◌&&◌, ◌||◌, eqb, ltb, ◌≢◌, length, set, sym, refl, ap, ◌∙◌, subst, ap₂, ⊎_elim, arith}
+use Rattle.std.proofs.Common.{◌≡◌, ◌&&◌, ◌||◌, eqb, ◌≢◌, set, sym, refl, ◌∙◌, subst, ap₂, ⊎_elim, arith}
 use Rattle.offices.specs.Members.{row_holds}
 use Rattle.std.proofs.lemmas.List.{length-set}
 use Rattle.std.proofs.lemmas.Bool.{cases_eq, lt-ltb}
@@ -7,7 +7,7 @@ use Rattle.offices.proofs.RowFacts.{row_set_same, row_set_other, row_replicate}
 use Rattle.matrix_office.proofs.rows.diagonal.Goals as goal
 
 pub loop-role-init : goal.loop-role-init
-loop-role-init c = (refl, λ a b h. absurd (omega arith), λ a b h. row_replicate 64 c.empty_rows.result a b c.empty_rows.ensures)
+loop-role-init c = (refl, λ a b h. absurd (omega arith), λ a b h. row_replicate 64 c.empty-rows.result a b c.empty-rows.ensures)
 
 pub loop-role-preserved : goal.loop-role-preserved
 loop-role-preserved c =

@@ -1,9 +1,9 @@
-use Rattle.std.proofs.Common.{◌<◌, ◌≤◌, sym, inl, inr, ⊎_elim, arith}
+use Rattle.std.proofs.Common.{inl, inr, ⊎_elim, arith}
 use Rattle.banks.specs.Joined.{at_old, at_new, at_none}
 use Rattle.banks.proofs.join.Join.seat.Goals as goal
 
-pub returns-then-office_count : goal.returns-then-office_count
-returns-then-office_count g c =
+pub returns-then-office-count : goal.returns-then-office-count
+returns-then-office-count g c =
     let x = c.args.self.now in
     at_old (g.B.Bank.offices x.bank) (g.O.Office.model x.last) c.args.office (omega arith) (g.met.B.Bank.heard x.bank)
 

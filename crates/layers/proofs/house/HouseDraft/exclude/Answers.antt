@@ -1,6 +1,5 @@
-use Rattle.std.proofs.Common.{◌≡◌, ℕ, ◌+◌, ◌-◌, ◌≤◌, min, length, sym, refl, ap, ◌∙◌, ap₂, arith}
+use Rattle.std.proofs.Common.{◌≡◌, ◌+◌, ◌-◌, ◌≤◌, min, length, refl, ap, ◌∙◌, ap₂, arith}
 use Rattle.offices.specs.Bases.{table_roles, table_sets}
-use Rattle.offices.specs.Model.{OfficeModel}
 use Rattle.offices.specs.Sets.{fitted}
 use Rattle.offices.specs.Drafting.{set_answer}
 use Rattle.layers.specs.Layers.{fitting, house_model}

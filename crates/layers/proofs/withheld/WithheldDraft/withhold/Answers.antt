@@ -1,4 +1,4 @@
-use Rattle.std.proofs.Common.{◌≡◌, ◌<◌, Ok, Err, refl, arith}
+use Rattle.std.proofs.Common.{Ok, Err, refl, arith}
 use Rattle.std.proofs.lemmas.Bool.{cond_below}
 use Rattle.answers.specs.declared.Refusal.TheVariants.{NoSuchRole}
 use Rattle.offices.specs.Members.{holds}

@@ -1,4 +1,4 @@
-use Rattle.std.proofs.Common.{◌≡◌, ℕ, ◌+◌, ◌<◌, ◌≤◌, false, List, [], ◌∷◌, ◌++◌, length, set, Ok, Err, sym, refl, ap, ◌∙◌, subst, arith, length-set}
+use Rattle.std.proofs.Common.{◌≡◌, ◌+◌, ◌<◌, [], ◌∷◌, ◌++◌, length, set, Ok, Err, sym, ◌∙◌, subst, arith, length-set}
 use Rattle.std.proofs.lemmas.List.{take_more_set, length-take-le}
 use Rattle.std.proofs.lemmas.Bool.{cond_below}
 use Rattle.answers.specs.declared.Refusal.TheVariants.{PairsFull}
@@ -20,19 +20,14 @@ invariant_of-self c =
     let rows = l.rows in
     let at : l.count < length l.pairs = omega arith in
     let more : kept_pairs (l.count + 1) (set l.pairs l.count p) ≡ pairs_in l ++ (p ∷ []) = take_more_set l.pairs l.count p at in
-    let juniors = set l.juniors c.args.senior c.with-below.result in (
-      omega arith,
-      (
-        length-set l.pairs l.count p ∙ l.room,
-        (
-          length-set l.juniors c.args.senior c.with-below.result ∙ l.rows,
-          (
-            ∣ subst (Rows (row_holds juniors)) (sym more) (rows_push l.juniors (pairs_in l) p c.with-below.result (omega arith) (omega arith) (rows_from (row_holds l.juniors) (pairs_in l) l.steps) c.with-below.ensures) ∣₁,
-            (∣ subst (Acyclic 64) (sym more) (acyclic_push 64 (pairs_in l) p (acyclic_from 64 (pairs_in l) l.order) (omega arith) (omega arith) (sym c.if-is_over.ensures)) ∣₁, tt),
-          ),
-        ),
-      ),
-    )
+    let juniors = set l.juniors c.args.senior c.with-below.result in
+    record {
+      most = omega arith;
+      room = length-set l.pairs l.count p ∙ l.room;
+      rows = length-set l.juniors c.args.senior c.with-below.result ∙ l.rows;
+      steps = ∣ subst (Rows (row_holds juniors)) (sym more) (rows_push l.juniors (pairs_in l) p c.with-below.result (omega arith) (omega arith) (rows_from (row_holds l.juniors) (pairs_in l) l.steps) c.with-below.ensures) ∣₁;
+      order = ∣ subst (Acyclic 64) (sym more) (acyclic_push 64 (pairs_in l) p (acyclic_from 64 (pairs_in l) l.order) (omega arith) (omega arith) (sym c.if-is_over.ensures)) ∣₁;
+    }
 
 pub returns : goal.returns
 returns c =

@@ -1,7 +1,7 @@
-use Rattle.std.proofs.Common.{◌≡◌, Ok, Err, sym, ◌∙◌, subst, arith, rules}
+use Rattle.std.proofs.Common.{Ok, sym, subst, arith, rules}
 use mathlib.Core.Path.{fun_ext}
 use Rattle.offices.specs.Members.{row_holds}
-use Rattle.offices.specs.Order.{Order, grown}
+use Rattle.offices.specs.Order.{Order}
 use Rattle.offices.proofs.Closing.{grown_order}
 use Rattle.offices.proofs.Props.{order_from}
 use Rattle.drafting.proofs.KeepAnswers.{keep_own}
@@ -12,7 +12,10 @@ invariant_of-self c =
     let over = row_holds c.args.self.now.rows in
     let same = fun_ext (λ a. fun_ext (λ b. c.absorb.ensures a b)) in
     let order = order_from 64 over c.args.self.now.order in
-    (search rules, (∣ subst (Order 64) (sym same) (grown_order 64 over order c.args.senior c.args.junior (sym c.if-contains.ensures)) ∣₁, tt))
+    record {
+      room = search rules;
+      order = ∣ subst (Order 64) (sym same) (grown_order 64 over order c.args.senior c.args.junior (sym c.if-contains.ensures)) ∣₁;
+    }
 
 pub returns : goal.returns
 returns c = record {

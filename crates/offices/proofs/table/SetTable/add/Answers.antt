@@ -1,7 +1,7 @@
 use Rattle.std.proofs.Common.{[], ◌∷◌, ◌++◌, sym, refl, ap, ◌∙◌, subst, arith, rules}
 use Rattle.offices.specs.Model.{Shaped}
 use Rattle.offices.specs.Sets.{sets_of, set_model}
-use Rattle.std.specs.List.{AllByRecursion as All}
+use Rattle.std.specs.List.{AllByRecursion}
 use Rattle.std.proofs.ByRecursion.{All-push}
 use Rattle.offices.proofs.SetRows.{length_sets}
 use Rattle.offices.proofs.SetShape.{answer_bad, answer_role, answer_ok, sets_push, shaped_good, good_few}
@@ -40,7 +40,7 @@ invariant_of-self c =
       eight = search rules;
       room = search rules;
       shaped =
-          ∣ subst (All (Shaped d.roles)) (sym (sets_push d.count d.sets c.exclusive_set-set.result (omega arith)))
+          ∣ subst (AllByRecursion (Shaped d.roles)) (sym (sets_push d.count d.sets c.exclusive_set-set.result (omega arith)))
           (All-push (Shaped d.roles) (sets_of d.count d.sets) (set_model c.exclusive_set-set.result) (shaped_from d.roles d.count d.sets d.shaped) new) ∣₁;
     }
 

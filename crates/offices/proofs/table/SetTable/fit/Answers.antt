@@ -1,5 +1,5 @@
 use Rattle.std.proofs.Common.{sym, ap, ◌∙◌, subst, arith}
-use Rattle.std.specs.List.{AllByRecursion as All}
+use Rattle.std.specs.List.{AllByRecursion}
 use Rattle.offices.specs.Bases.{table_sets}
 use Rattle.offices.specs.Model.{Shaped}
 use Rattle.offices.specs.Sets.{fitted}
@@ -16,7 +16,7 @@ invariant_of-self c =
       eight = c.keeping-keep.ensures.few;
       room = d.room;
       shaped =
-          ∣ subst (All (Shaped roles)) (sym c.keeping-keep.ensures.sets)
+          ∣ subst (AllByRecursion (Shaped roles)) (sym c.keeping-keep.ensures.sets)
           (fitted_shaped d.roles roles c.args.room (table_sets d) (shaped_from d.roles d.count d.sets d.shaped)) ∣₁;
     }
 

@@ -1,4 +1,4 @@
-use Rattle.std.proofs.Common.{◌≡◌, None, sym, refl, arith, rules}
+use Rattle.std.proofs.Common.{None, sym, arith, rules}
 use Rattle.std.proofs.lemmas.List.{get_or_past}
 use Rattle.tree_office.specs.Seniors.{senior_in}
 use Rattle.tree_office.specs.Climbing.{grows_from}

@@ -1,4 +1,4 @@
-use Rattle.std.proofs.Common.{◌≡◌, ℕ, get_or, replicate, None, Option, sym, refl, ⊎_elim, arith}
+use Rattle.std.proofs.Common.{◌≡◌, ℕ, replicate, None, Option, refl, ⊎_elim, arith}
 use Rattle.std.proofs.lemmas.List.{get_or-replicate, get_or_past, length-replicate}
 use Rattle.std.proofs.lemmas.Bool.{cases_lt}
 use Rattle.tree_office.specs.Climb.{senior_of}
@@ -12,7 +12,7 @@ nobody_up b = ⊎_elim
     (cases_lt b 64)
 
 pub invariant_of-result : goal.invariant_of-result
-invariant_of-result c = (refl, (∣ grows_bare 64 (senior_of (replicate 64 None)) nobody_up (omega arith) ∣₁, tt))
+invariant_of-result c = record { room = refl; grows = ∣ grows_bare 64 (senior_of (replicate 64 None)) nobody_up (omega arith) ∣₁ }
 
 pub returns : goal.returns
 returns c = record { over = bare_is 64 (senior_of (replicate 64 None)) nobody_up (omega arith); blank = nobody_up }

@@ -1,4 +1,4 @@
-use Rattle.std.proofs.Common.{◌≡◌, is_some, Some, None, Ok, sym, ap, ◌∙◌, arith}
+use Rattle.std.proofs.Common.{is_some, Some, sym, ap, ◌∙◌, arith}
 use Rattle.std.proofs.lemmas.List.{length-set}
 use Rattle.drafting.proofs.KeepAnswers.{keep_own}
 use Rattle.tree_office.specs.Seniors.{senior_in, climbed, free_answer}
@@ -11,7 +11,10 @@ invariant_of-self c =
     let t = c.args.self.now in
     let j = c.args.junior in
     let root = is_none (senior_in t j) (ap is_some (sym c.senior.ensures.value) ∙ sym c.if-is_some.ensures) in
-    (length-set t.seniors j (Some c.args.senior) ∙ t.room, (∣ tree_more t c.args.senior j (omega arith) (omega arith) (sym c.if-is_over.ensures) root ∣₁, tt))
+    record {
+      room = length-set t.seniors j (Some c.args.senior) ∙ t.room;
+      grows = ∣ tree_more t c.args.senior j (omega arith) (omega arith) (sym c.if-is_over.ensures) root ∣₁;
+    }
 
 pub returns : goal.returns
 returns c =
