@@ -1,7 +1,7 @@
 // A small graph in a table: a row of eight cells for each node.
 ghost use Rattle.std.specs.Prelude.{◌≡◌, ◌+◌, ◌*◌, ◌<◌, ◌≤◌, true, false, length, replicate, slice_set};
 ghost use Rattle.cases.specs.Tables.{cell};
-ghost use Rattle.std.proofs.Common.{rules, arith};
+ghost use Rattle.std.proofs.Common.{rules};
 
 use search::Graph;
 
@@ -44,9 +44,9 @@ impl Graph for Table {
 
     ghost leads = { λ x a b. cell x.nodes x.cells a b };
 
-    ghost few = { first_of (Prim.search rules, Prim.grind (arith, Self.row.coded.inj)) };
+    ghost few = { Prim.search rules };
 
-    ghost inside = { first_of (Prim.search rules, Prim.grind (arith, Self.row.coded.inj)) };
+    ghost inside = { Prim.search rules };
 
     fn nodes(&self) -> usize {
         self.nodes

@@ -2,16 +2,16 @@
 #![tactic(auto)]
 
 mod bank;
-mod drafting;
 mod houses;
 mod notes;
 mod questions;
+mod records;
 
 use std::io;
 
 fn main(rt: HostRuntime) -> io::Result<()> {
     println!(rt; "A records house drafts its office")?;
-    let office = drafting::records_house(&rt)?;
+    let office = records::records_house(&rt)?;
     println!(rt; "")?;
     println!(rt; "The sealed office is asked")?;
     questions::about_roles(&rt, &office)?;
