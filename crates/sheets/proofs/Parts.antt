@@ -1,5 +1,5 @@
 -- A line of twenty bytes, from its parts.
-use Rattle.std.proofs.Common.{◌≡◌, ℕ, ◌≤◌, List, ◌++◌, length, take, drop, Ok, sym, refl, ap, ◌∙◌, arith, length-drop, take-append-drop, drop-drop}
+use Rattle.std.proofs.Common.{◌≡◌, ℕ, List, ◌++◌, length, take, drop, Ok, sym, ap, ◌∙◌, arith, length-drop, take-append-drop, drop-drop}
 use Rattle.std.proofs.lemmas.List.{take_all}
 use Rattle.sheet_words.specs.declared.PairWord.{PairWord}
 use Rattle.sheet_words.specs.declared.Word.{Word}
@@ -7,7 +7,7 @@ use Rattle.sheet_words.specs.declared.Word.TheVariants.{Pair}
 use Rattle.sheet_words.specs.declared.Word.TheVariants as sole
 use Rattle.sheet_words.specs.Words.{word_of}
 use Rattle.sheets.specs.Columns.{six}
-use Rattle.sheets.specs.Slips.{Slip, pair_slip, handback_slip, box_slip, send_slip, written, Writable, blank, Mark}
+use Rattle.sheets.specs.Slips.{pair_slip, handback_slip, box_slip, send_slip, written, Writable, blank, Mark}
 use Rattle.sheets.specs.Reading.{PairRead, OneRead, NoneRead, mark_in}
 
 -- from its word and its two fields

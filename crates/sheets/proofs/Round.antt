@@ -1,7 +1,6 @@
 -- What is written reads back, and nothing else reads.
 use Rattle.std.proofs.Common.{◌≡◌, ℕ, ◌+◌, ◌*◌, ◌≤◌, cond, eqb, ◌⊎◌, List, ◌++◌, length, get_or, take, drop, Ok, Err, Result, sym, refl, ap, ◌∙◌, subst, inl, inr, arith, length-append, drop-drop, take_at, drop_at}
 use Rattle.std.proofs.lemmas.List.{take_all}
-use Rattle.sheet_words.specs.declared.PairWord.{PairWord}
 use Rattle.sheet_words.specs.declared.PairWord.TheVariants as word
 use Rattle.sheet_words.specs.declared.Word.{Word}
 use Rattle.sheet_words.specs.declared.Word.TheVariants.{Pair}
@@ -16,8 +15,7 @@ use Rattle.sheets.specs.Columns.{six}
 use Rattle.sheets.specs.Slips.{Slip, pair_slip, handback_slip, box_slip, send_slip, meaning, written, Writable, blank, Mark}
 use Rattle.sheets.specs.Reading.{first, second, mark_in, BadAt, FirstBad, Reads, Means, ReadsBack}
 use Rattle.sheets.specs.Fields.{value, Proper, Clean}
-use Rattle.sheets.specs.Writing.{Writes}
-use Rattle.sheets.specs.Promise.{Exactly, CallsAgree, Apart, FieldsClean, LinesAndTokensMatch}
+use Rattle.sheets.specs.Promise.{Exactly, CallsAgree, Apart, LinesAndTokensMatch}
 use Rattle.sheets.proofs.Counted.{length_six}
 use Rattle.sheets.proofs.Parts.{mark_whole}
 use Rattle.sheets.proofs.Properly.{proper, number_six}

@@ -11,7 +11,7 @@ use sheet_words::{PairWord, Word, read_word};
 fn is_blank(field: &[u8]) -> bool
     ensures { Decides result (field.now ≡ blank) }
 {
-    field == b"      "
+    field == b"      ".as_slice()
 }
 
 // Twelve bytes from the space to the tilde.

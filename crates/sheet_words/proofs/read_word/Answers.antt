@@ -1,4 +1,4 @@
-use Rattle.std.proofs.Common.{arith, rules, ltb-false, ltb-true}
+use Rattle.std.proofs.Common.{arith, ltb-false, ltb-true}
 use Rattle.sheet_words.proofs.Eight.{from_eight}
 use Rattle.sheet_words.proofs.read_word.Goals as goal
 
@@ -18,20 +18,12 @@ pub returns-in-82-2 : goal.returns-in-82-2
 returns-in-82-2 c =
     from_eight _ (omega (arith, ltb-true, ltb-false)) (omega arith) (omega arith) (omega arith) (omega arith) (omega arith) (omega arith) (omega arith) (omega arith)
 
-pub returns-in-72 : goal.returns-in-72
-returns-in-72 c =
-    from_eight _ (omega (arith, ltb-true, ltb-false)) (omega arith) (omega arith) (omega arith) (omega arith) (omega arith) (omega arith) (omega arith) (omega arith)
-
 pub returns-in-84 : goal.returns-in-84
 returns-in-84 c =
     from_eight _ (omega (arith, ltb-true, ltb-false)) (omega arith) (omega arith) (omega arith) (omega arith) (omega arith) (omega arith) (omega arith) (omega arith)
 
 pub returns-in-84-2 : goal.returns-in-84-2
 returns-in-84-2 c =
-    from_eight _ (omega (arith, ltb-true, ltb-false)) (omega arith) (omega arith) (omega arith) (omega arith) (omega arith) (omega arith) (omega arith) (omega arith)
-
-pub returns-in-68 : goal.returns-in-68
-returns-in-68 c =
     from_eight _ (omega (arith, ltb-true, ltb-false)) (omega arith) (omega arith) (omega arith) (omega arith) (omega arith) (omega arith) (omega arith) (omega arith)
 
 pub returns-in-76 : goal.returns-in-76
@@ -44,10 +36,6 @@ returns-in-83 c =
 
 pub returns-in-83-2 : goal.returns-in-83-2
 returns-in-83-2 c =
-    from_eight _ (omega (arith, ltb-true, ltb-false)) (omega arith) (omega arith) (omega arith) (omega arith) (omega arith) (omega arith) (omega arith) (omega arith)
-
-pub returns-in-87 : goal.returns-in-87
-returns-in-87 c =
     from_eight _ (omega (arith, ltb-true, ltb-false)) (omega arith) (omega arith) (omega arith) (omega arith) (omega arith) (omega arith) (omega arith) (omega arith)
 
 pub returns-in-77 : goal.returns-in-77

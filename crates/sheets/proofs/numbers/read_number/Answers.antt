@@ -9,15 +9,15 @@ pub returns-then-eq : goal.returns-then-eq
 unfolding six
 returns-then-eq c =
     let h = slice_eq-Decides Decides-eqb _ _ _ c.eq.ensures in
-    (omega arith, sym (h.0 c.if-eq.true) ∙ ap (take 6) c.six-columns-written.ensures)
+    (omega arith, sym (h.0 c.if-eq.true) ∙ ap (take 6) c.six_columns-written.ensures)
 
 pub returns-else-eq : goal.returns-else-eq
 returns-else-eq c held =
     let h = slice_eq-Decides Decides-eqb _ _ _ c.eq.ensures in
     let t =
     h.1
-    (written_again _ _ _ _ _ _ _ _ c.count-of.ensures.is c.count-of-2.ensures.is c.count-of-3.ensures.is
-    c.count-of-4.ensures.is c.count-of-5.ensures.is c.count-of-6.ensures.is c.six-columns-written.ensures held.0 held.1.0 held.1.1) in
+    (written_again _ _ _ _ _ _ _ _ c.count_of.ensures.is c.count_of-2.ensures.is c.count_of-3.ensures.is
+    c.count_of-4.ensures.is c.count_of-5.ensures.is c.count_of-6.ensures.is c.six_columns-written.ensures held.0 held.1.0 held.1.1) in
     let f = c.if-eq.false in
     let z : ◌≡◌ {A = ℕ} 0 1 = cc in omega arith
 

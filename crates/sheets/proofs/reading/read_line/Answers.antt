@@ -45,83 +45,83 @@ returns-then-line-ne20 c =
     let h : Reads c.args.line.now (Err WrongLength) = search rules in
     record { reads = h; back = reads_back _ (Err WrongLength) h; lent = no_box c.args.line WrongLength }
 
-pub returns-in-default : goal.returns-in-default
-returns-in-default c =
+pub returns-in_default : goal.returns-in_default
+returns-in_default c =
     let h : Reads c.args.line.now (Err UnknownWord) = search rules in
     record { reads = h; back = reads_back _ (Err UnknownWord) h; lent = no_box c.args.line UnknownWord }
 
-pub returns-in-err-first : goal.returns-in-err-first
+pub returns-in_err-first-in-Pair : goal.returns-in_err-first-in-Pair
 unfolding Whole
-returns-in-err-first c =
-    let q : c.from-residual.result ≡ Err c.in-err-first.field-0.0 = search rules in
+returns-in_err-first-in-Pair c =
+    let q : c.from_residual.result ≡ Err c.in_err-first-in-Pair.field-0.0 = search rules in
     let h =
     fault_whole c.args.line _ _ q
-    (bad_field _ _ (Pair c.in-Pair.pair-word) c.in-err-first.field-0.0 c.if-line-ne20.false c.in-Some.ensures c.in-Pair.is c.in-err-first.ensures) in
+    (bad_field _ _ (Pair c.in-Pair.pair_word) c.in_err-first-in-Pair.field-0.0 c.if-line-ne20.false c.in-Some.ensures c.in-Pair.is c.in_err-first-in-Pair.ensures) in
     record { reads = h.0; back = h.1; lent = h.2 }
 
-pub returns-in-err-card : goal.returns-in-err-card
+pub returns-in_err-card-in-Handback : goal.returns-in_err-card-in-Handback
 unfolding Whole
-returns-in-err-card c =
-    let q : c.from-residual-in-err-card.result ≡ Err c.in-err-card.field-0.0 = search rules in
+returns-in_err-card-in-Handback c =
+    let q : c.from_residual-in_err-card-in-Handback.result ≡ Err c.in_err-card-in-Handback.field-0.0 = search rules in
     let h =
     fault_whole c.args.line _ _ q
-    (bad_field _ _ sole.Handback c.in-err-card.field-0.0 c.if-line-ne20.false c.in-Some.ensures c.in-Handback.is c.in-err-card.ensures) in
+    (bad_field _ _ sole.Handback c.in_err-card-in-Handback.field-0.0 c.if-line-ne20.false c.in-Some.ensures c.in-Handback.is c.in_err-card-in-Handback.ensures) in
     record { reads = h.0; back = h.1; lent = h.2 }
 
-pub returns-in-err-mark : goal.returns-in-err-mark
+pub returns-in_err-mark-in-Box : goal.returns-in_err-mark-in-Box
 unfolding Whole
-returns-in-err-mark c =
-    let q : c.from-residual-in-err-mark.result ≡ Err c.in-err-mark.field-0.0 = search rules in
+returns-in_err-mark-in-Box c =
+    let q : c.from_residual-in_err-mark-in-Box.result ≡ Err c.in_err-mark-in-Box.field-0.0 = search rules in
     let h =
     fault_whole c.args.line _ _ q
-    (bad_field _ _ sole.Box c.in-err-mark.field-0.0 c.if-line-ne20.false c.in-Some.ensures c.in-Box.is c.in-err-mark.ensures.reads) in
+    (bad_field _ _ sole.Box c.in_err-mark-in-Box.field-0.0 c.if-line-ne20.false c.in-Some.ensures c.in-Box.is c.in_err-mark-in-Box.ensures.reads) in
     record { reads = h.0; back = h.1; lent = h.2 }
 
-pub returns-in-err-no-number : goal.returns-in-err-no-number
+pub returns-in_err-no_number-in-Send : goal.returns-in_err-no_number-in-Send
 unfolding Whole
-returns-in-err-no-number c =
-    let q : c.from-residual-in-err-no-number.result ≡ Err c.in-err-no-number.field-0.0 = search rules in
+returns-in_err-no_number-in-Send c =
+    let q : c.from_residual-in_err-no_number-in-Send.result ≡ Err c.in_err-no_number-in-Send.field-0.0 = search rules in
     let h =
     fault_whole c.args.line _ _ q
-    (bad_field _ _ sole.Send c.in-err-no-number.field-0.0 c.if-line-ne20.false c.in-Some.ensures c.in-Send.is c.in-err-no-number.ensures) in
+    (bad_field _ _ sole.Send c.in_err-no_number-in-Send.field-0.0 c.if-line-ne20.false c.in-Some.ensures c.in-Send.is c.in_err-no_number-in-Send.ensures) in
     record { reads = h.0; back = h.1; lent = h.2 }
 
-pub returns-in-ok-first : goal.returns-in-ok-first
-returns-in-ok-first c =
-    let m = c.pair-token.ensures in
-    let h : Reads c.args.line.now (Ok c.pair-token.result) =
+pub returns-in_ok-first-in-Pair : goal.returns-in_ok-first-in-Pair
+returns-in_ok-first-in-Pair c =
+    let m = c.pair_token.ensures in
+    let h : Reads c.args.line.now (Ok c.pair_token.result) =
     subst (λ (s : Slip). Writable s × (c.args.line.now ≡ written s)) (sym m)
-    (pair_line _ _ _ _ _ c.if-line-ne20.false c.in-Some.ensures c.in-Pair.is c.in-ok-first.ensures) in
-    record { reads = h; back = reads_back _ (Ok c.pair-token.result) h; lent = no_pair_box c.args.line _ _ _ _ m }
+    (pair_line _ _ _ _ _ c.if-line-ne20.false c.in-Some.ensures c.in-Pair.is c.in_ok-first-in-Pair.ensures) in
+    record { reads = h; back = reads_back _ (Ok c.pair_token.result) h; lent = no_pair_box c.args.line _ _ _ _ m }
 
-pub returns-in-ok-card : goal.returns-in-ok-card
-returns-in-ok-card c =
-    let h : Reads c.args.line.now (Ok (Handback c.in-ok-card.card)) =
-    handback_line _ _ _ c.if-line-ne20.false c.in-Some.ensures c.in-Handback.is c.in-ok-card.ensures in
+pub returns-in_ok-card-in-Handback : goal.returns-in_ok-card-in-Handback
+returns-in_ok-card-in-Handback c =
+    let h : Reads c.args.line.now (Ok (Handback c.in_ok-card-in-Handback.card)) =
+    handback_line _ _ _ c.if-line-ne20.false c.in-Some.ensures c.in-Handback.is c.in_ok-card-in-Handback.ensures in
     record {
       reads = h;
-      back = reads_back _ (Ok (Handback c.in-ok-card.card)) h;
+      back = reads_back _ (Ok (Handback c.in_ok-card-in-Handback.card)) h;
       lent = λ mark e. let z : ◌≡◌ {A = ℕ} 0 1 = cc in absurd (omega arith);
     }
 
-pub returns-in-ok-mark : goal.returns-in-ok-mark
-returns-in-ok-mark c =
-    let read = c.in-ok-mark.ensures.reads in
-    let lends = c.in-ok-mark.ensures.lent in
-    let h : Reads c.args.line.now (Ok (Box c.in-ok-mark.mark)) =
+pub returns-in_ok-mark-in-Box : goal.returns-in_ok-mark-in-Box
+returns-in_ok-mark-in-Box c =
+    let read = c.in_ok-mark-in-Box.ensures.reads in
+    let lends = c.in_ok-mark-in-Box.ensures.lent in
+    let h : Reads c.args.line.now (Ok (Box c.in_ok-mark-in-Box.mark)) =
     box_line _ _ _ c.if-line-ne20.false c.in-Some.ensures c.in-Box.is read.0 read.1 in
     record {
       reads = h;
-      back = reads_back _ (Ok (Box c.in-ok-mark.mark)) h;
+      back = reads_back _ (Ok (Box c.in_ok-mark-in-Box.mark)) h;
       lent = λ mark e.
-          let same : c.in-ok-mark.mark ≡ mark = cc in
+          let same : c.in_ok-mark-in-Box.mark ≡ mark = cc in
           subst (λ (m : Bor (List ℕ)). Lent c.args.line m) same lends;
     }
 
-pub returns-in-ok-no-number : goal.returns-in-ok-no-number
-returns-in-ok-no-number c =
+pub returns-in_ok-no_number-in-Send : goal.returns-in_ok-no_number-in-Send
+returns-in_ok-no_number-in-Send c =
     let h : Reads c.args.line.now (Ok Send) =
-    send_line _ _ c.if-line-ne20.false c.in-Some.ensures c.in-Send.is c.in-ok-no-number.ensures in
+    send_line _ _ c.if-line-ne20.false c.in-Some.ensures c.in-Send.is c.in_ok-no_number-in-Send.ensures in
     record {
       reads = h;
       back = reads_back _ (Ok Send) h;

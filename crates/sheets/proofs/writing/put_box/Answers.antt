@@ -16,5 +16,5 @@ halves_put line w m e q n =
 
 pub returns : goal.returns
 returns c =
-    let good = c.is-mark.ensures.0 c.if-not-is-mark.false in
-    (c.requires, good, halves_put _ _ c.args.mark.now c.put-parts.ensures c.write-word.ensures good.0)
+    let good = c.is_mark.ensures.0 c.if-not-is_mark.false in
+    (c.requires, good, halves_put _ _ c.args.mark.now c.put_parts.ensures c.write_word.ensures good.0)

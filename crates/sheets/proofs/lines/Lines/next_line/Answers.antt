@@ -1,4 +1,4 @@
-use Rattle.std.proofs.Common.{◌≡◌, ◌<◌, length, get_or, refl, arith, rules}
+use Rattle.std.proofs.Common.{◌≡◌, ◌<◌, length, get_or, refl, arith}
 use Rattle.sheets.proofs.Splitting.{lines_end, sheet_fed, sheet_last}
 use Rattle.sheets.proofs.lines.Lines.next_line.Goals as goal
 
@@ -7,7 +7,7 @@ returns-then-start-sheet c = record { same = refl; gives = (lines_end _ _ c.if-s
 
 -- the loop stopped short of the sheet's end, so at a line feed
 fed :
-    (c : goal.After-result·1) → c.loop-end.end < length c.args.self.now.sheet.now
+    (c : goal.After-result-1) → c.loop-end.end < length c.args.self.now.sheet.now
     → get_or c.args.self.now.sheet.now c.loop-end.end 0 ≡ 10
 fed c lt =
     elim c.loop-end-test.branch
