@@ -16,7 +16,7 @@ use std::alloc::{AllocError, Global};
 impl Directory {
     // Asks a bank for all that its offices answer.
     pub fn read<B: Bank>(bank: &B, heap: Global) -> Result<Directory, AllocError>
-        ensures heard { IfOk result (λ d. heard d ≡ offices bank.now) }
+        ensures heard { IfOk result (λ d. heard d ≡ B.offices bank.now) }
         ensures lawful { IfOk result (λ d. LawfulBank (heard d)) }
     {
         let count = bank.office_count();

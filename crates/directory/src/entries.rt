@@ -15,7 +15,7 @@ use offices::RoleSet;
 impl OfficeEntry {
     // Asks for all that an office answers.
     pub(crate) fn read<B: Bank>(bank: &B, office: u8) -> OfficeEntry
-        ensures { entry_model result ≡ office_at (offices bank.now) office }
+        ensures { entry_model result ≡ office_at (B.offices bank.now) office }
     {
         let mut base = marked_base(bank, office);
         add_sets(bank, office, &mut base);

@@ -7,8 +7,8 @@ use offices::OfficeBase;
 
 // The office's roles and shared marks, and no set yet.
 pub(crate) fn marked_base<B: Bank>(bank: &B, office: u8) -> OfficeBase
-    ensures roles { base_roles result ≡ (office_at (offices bank.now) office).roles }
-    ensures shared { (a : ℕ) → base_shared result a ≡ (office_at (offices bank.now) office).shared a }
+    ensures roles { base_roles result ≡ (office_at (B.offices bank.now) office).roles }
+    ensures shared { (a : ℕ) → base_shared result a ≡ (office_at (B.offices bank.now) office).shared a }
     ensures sets { base_sets result ≡ [] }
 {
     let roles = bank.role_count(office);

@@ -7,8 +7,8 @@ use offices::RoleSet;
 
 // The roles that `senior` is over, of the office's `roles` roles.
 fn juniors_of<B: Bank>(bank: &B, office: u8, roles: u8, senior: u8) -> RoleSet
-    requires { roles ≡ (office_at (offices bank.now) office).roles }
-    ensures { (i : ℕ) → holds result i ≡ (office_at (offices bank.now) office).over senior i }
+    requires { roles ≡ (office_at (B.offices bank.now) office).roles }
+    ensures { (i : ℕ) → holds result i ≡ (office_at (B.offices bank.now) office).over senior i }
 {
     let mut juniors = RoleSet::empty();
     for junior in 0..roles {
@@ -21,8 +21,8 @@ fn juniors_of<B: Bank>(bank: &B, office: u8, roles: u8, senior: u8) -> RoleSet
 
 // For each of the office's `roles` roles the roles that it is over.
 pub(crate) fn seniority_of<B: Bank>(bank: &B, office: u8, roles: u8) -> [RoleSet; 64]
-    requires { roles ≡ (office_at (offices bank.now) office).roles }
-    ensures { (a b : ℕ) → row_holds result a b ≡ (office_at (offices bank.now) office).over a b }
+    requires { roles ≡ (office_at (B.offices bank.now) office).roles }
+    ensures { (a b : ℕ) → row_holds result a b ≡ (office_at (B.offices bank.now) office).over a b }
 {
     let mut rows = [RoleSet::empty(); 64];
     for senior in 0..roles {

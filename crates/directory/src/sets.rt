@@ -10,7 +10,7 @@ use offices::OfficeBase;
 fn copy_members<B: Bank>(bank: &B, office: u8, set: u8, places: &mut [u8]) -> usize
     requires { length places.old ≡ 8 }
     ensures within { result ≤ 8 }
-    ensures copied { take result places.new ≡ members_at (office_at (offices bank.now) office).sets set }
+    ensures copied { take result places.new ≡ members_at (office_at (B.offices bank.now) office).sets set }
 {
     for place in 0..8u8 {
         match bank.set_member(office, set, place) {
@@ -23,10 +23,10 @@ fn copy_members<B: Bank>(bank: &B, office: u8, set: u8, places: &mut [u8]) -> us
 
 // Adds the set after those before it.
 fn add_set<B: Bank>(bank: &B, office: u8, set: u8, base: &mut OfficeBase)
-    requires there { set < length (office_at (offices bank.now) office).sets }
-    requires roles { base_roles base.old ≡ (office_at (offices bank.now) office).roles }
-    requires before { base_sets base.old ≡ take set (office_at (offices bank.now) office).sets }
-    ensures sets { base_sets base.new ≡ take (set + 1) (office_at (offices bank.now) office).sets }
+    requires there { set < length (office_at (B.offices bank.now) office).sets }
+    requires roles { base_roles base.old ≡ (office_at (B.offices bank.now) office).roles }
+    requires before { base_sets base.old ≡ take set (office_at (B.offices bank.now) office).sets }
+    ensures sets { base_sets base.new ≡ take (set + 1) (office_at (B.offices bank.now) office).sets }
     ensures roles { base_roles base.new ≡ base_roles base.old }
     ensures shared { base_shared base.new ≡ base_shared base.old }
 {
@@ -38,9 +38,9 @@ fn add_set<B: Bank>(bank: &B, office: u8, set: u8, base: &mut OfficeBase)
 
 // Adds all sets of the office.
 pub(crate) fn add_sets<B: Bank>(bank: &B, office: u8, base: &mut OfficeBase)
-    requires roles { base_roles base.old ≡ (office_at (offices bank.now) office).roles }
+    requires roles { base_roles base.old ≡ (office_at (B.offices bank.now) office).roles }
     requires before { base_sets base.old ≡ [] }
-    ensures sets { base_sets base.new ≡ (office_at (offices bank.now) office).sets }
+    ensures sets { base_sets base.new ≡ (office_at (B.offices bank.now) office).sets }
     ensures roles { base_roles base.new ≡ base_roles base.old }
     ensures shared { base_shared base.new ≡ base_shared base.old }
 {

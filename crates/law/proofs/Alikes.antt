@@ -5,10 +5,10 @@ use mathlib.Core.List.Permᴰ
 use mathlib.Core.List.{Memᴰ, Permᴰ}
 use mathlib.Core.Logic.Iff
 use Rattle.law.specs.Sound.{Link}
-use Rattle.law.specs.Requests.{Request, accepted, issue, assign, relieve, handback, trust, distrust, link, box, suspend, resume, withdraw}
+use Rattle.law.specs.Requests.{Request, accepted, issue, assign, relieve, handback, link, box, suspend, resume, withdraw}
 use Rattle.law.specs.Histories.{Event, accepting, Since, Is, Either, Enters, Issued, Holds, Trusts, Standing, Suspended, scene, Alike}
 use Rattle.law.specs.Promises.{Within, sent}
-use Rattle.law.proofs.Changes.{kind, since_on, or_same, issued_still, held_still, trusted_still, suspended_still}
+use Rattle.law.proofs.Changes.{kind, since_on, issued_still, held_still, trusted_still, suspended_still}
 
 -- the second says what the first says, and that these links stand
 pub record Adds (ls : List Link) (h h' : List Event) : Type 0 where

@@ -1,18 +1,18 @@
 -- A box and its links in any order.
-use Rattle.std.proofs.Common.{◌≡◌, ℕ, suc, ◌<◌, ◌≤◌, ◌⊎◌, ◌↔◌, List, [], ◌∷◌, ◌++◌, sym, refl, ◌∙◌, subst, inl, inr, ⊎_elim, arith}
+use Rattle.std.proofs.Common.{◌≡◌, ℕ, ◌⊎◌, List, [], ◌∷◌, sym, refl, subst, inl, inr}
 use mathlib.Core.List.{Permᴰ}
 use Rattle.offices.specs.Model.{OfficeModel}
 use Rattle.law.specs.Counting.{Many}
 use Rattle.law.specs.Sound.{Link, Sound}
-use Rattle.law.specs.Requests.{accepted, link, box}
+use Rattle.law.specs.Requests.{accepted, link}
 use Rattle.law.specs.Histories.{Event, accepting, Standing, scene, Alike}
 use Rattle.law.specs.Checks.{linking}
-use Rattle.law.specs.Right.{LinkAnswer, Right}
+use Rattle.law.specs.Right.{LinkAnswer}
 use Rattle.law.specs.Promises.{sent, Within}
 use Rattle.law.proofs.Scenes.{sound_less, many_more}
 use Rattle.law.proofs.Counts.{many_exchange}
-use Rattle.law.proofs.Passing.{passed, let_by, AllAccepted, box_lines, lines_box, link_sound}
-use Rattle.law.proofs.Alikes.{Adds, alike_back, alike_on, within_alike, link_adds, sent_adds, alike_adds, one}
+use Rattle.law.proofs.Passing.{passed, let_by, AllAccepted, link_sound}
+use Rattle.law.proofs.Alikes.{alike_back, alike_on, within_alike, link_adds, sent_adds, alike_adds, one}
 
 module _ (bank : List OfficeModel) (n : ℕ) where
   fresh : (h : List Event) (p : Link) → LinkAnswer bank h n p accepted → Standing h p → ⊥

@@ -1,8 +1,8 @@
 -- How each event changes what a history says.
-use Rattle.std.proofs.Common.{◌≡◌, ℕ, ◌<◌, ◌⊎◌, ◌↔◌, List, [], ◌∷◌, refl, ap, inl, inr, arith}
+use Rattle.std.proofs.Common.{◌≡◌, ℕ, ◌<◌, ◌⊎◌, ◌↔◌, List, ◌∷◌, refl, ap, inl, inr, arith}
 use Rattle.law.specs.Sound.{Link}
 use Rattle.law.specs.Requests.{Request, Answer, accepted, refused, refused_at, granted, denied, issue, assign, relieve, handback, trust, distrust, link, try, box, suspend, resume, withdraw, may}
-use Rattle.law.specs.Histories.{Event, Since, Is, Either, Enters, Issued, Holds, Trusts, Standing, Suspended, scene, Alike}
+use Rattle.law.specs.Histories.{Event, Since, Is, Either, Enters, Issued, Holds, Trusts, Standing, Suspended, scene}
 use Rattle.law.specs.Promises.{Within, OnlyAcceptedChange}
 
 -- up to 4, an accepted one can make a history unsound; up to 8, it changes the scene; up to 11, it changes anything

@@ -1,5 +1,5 @@
 -- No request is without an answer: it cannot be that each is wrong.
-use Rattle.std.proofs.Common.{◌≡◌, ℕ, zero, suc, ◌^◌, ◌<◌, ◌≤◌, Bool, true, false, ◌||◌, eqb, ◌⊎◌, List, [], ◌∷◌, length, Decides, sym, refl, ap, ◌∙◌, subst, inl, inr, arith}
+use Rattle.std.proofs.Common.{◌≡◌, ℕ, zero, suc, ◌^◌, ◌<◌, ◌≤◌, true, ◌||◌, eqb, ◌⊎◌, List, [], ◌∷◌, length, Decides, sym, refl, ap, ◌∙◌, subst, inl, inr, arith}
 use lib.Bits.{bit_or}
 use Rattle.std.proofs.lemmas.Bool.{cases_lt, cases_eq, cases_Bool, both_ways, or_cases, or_left, or_right, eqb-true, eq-eqb}
 use Rattle.search.specs.Chains.{Chain, Before, Best, Reached}
@@ -8,13 +8,13 @@ use Rattle.offices.specs.Word.{bit}
 use Rattle.offices.proofs.Bit.{bit-or, bit_one, bit_none}
 use Rattle.banks.specs.Banks.{office_at}
 use Rattle.banks.specs.Codes.{office_of, role_of}
-use Rattle.law.specs.Roles.{LawfulBank, set_at, member_code, IsRole, Over}
-use Rattle.law.specs.Sound.{Link, Scene, Step, Leads, PlaceReached, Overreached, Outsiders, Hierarchy, Exclusion, Sound}
+use Rattle.law.specs.Roles.{LawfulBank, set_at, member_code}
+use Rattle.law.specs.Sound.{Link, Scene, Step, PlaceReached, Overreached, Outsiders, Hierarchy, Exclusion, Sound}
 use Rattle.law.specs.Findings.{Finding, breaks_hierarchy, breaks_exclusion, breaks_exposure, Misled, Marks, Shows, Finds}
 use Rattle.law.specs.Requests.{Request, Answer, Reason, accepted, refused, refused_at, granted, denied, plain, unsound, issue, assign, relieve, handback, trust, distrust, link, try, box, suspend, resume, withdraw, may}
 use Rattle.law.specs.Histories.{Event, accepting, Holds, InForce}
 use Rattle.law.specs.Checks.{Check, ◌when◌, unless_sound, Refuses, Says, FirstRefusal, linking, checks}
-use Rattle.law.specs.Right.{LinkAnswer, LinesAnswer, MayAnswer, Unrefused, CalledFor}
+use Rattle.law.specs.Right.{LinkAnswer, LinesAnswer, MayAnswer, Unrefused}
 use Rattle.law.specs.Promises.{SomeAnswer}
 use Rattle.law.proofs.Scenes.{some_reached}
 

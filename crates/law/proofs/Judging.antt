@@ -11,7 +11,6 @@ use Rattle.offices.proofs.Bit.{bit_past}
 use Rattle.banks.specs.Banks.{office_at}
 use Rattle.banks.specs.Codes.{office_of, role_of}
 use Rattle.law.specs.Roles.{LawfulBank, set_at, member_code, IsRole, IsSet, Over}
-use Rattle.law.specs.Counting.{Many}
 use Rattle.law.specs.Sound.{Link, Scene, Step, Leads, PlaceReached, Overreached, Outsiders, Hierarchy, Exclusion, Sound}
 use Rattle.law.specs.Findings.{Finding, breaks_hierarchy, breaks_exclusion, breaks_exposure, Marks, Shows, Finds}
 use Rattle.law.specs.Examples.{among}

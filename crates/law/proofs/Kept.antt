@@ -17,10 +17,10 @@ use Rattle.law.specs.Requests.{Request, Answer, plain, accepted, refused, refuse
 use Rattle.law.specs.Histories.{Event, accepting, Issued, Holds, Standing, Suspended}
 use Rattle.law.specs.Checks.{Check, ◌when◌, unless_sound, FirstRefusal, linking, checks}
 use Rattle.law.specs.Right.{LinkAnswer, CalledFor, Right}
-use Rattle.law.specs.Promises.{sent, Kept, AllKept, FullAt256}
+use Rattle.law.specs.Promises.{sent, AllKept, FullAt256}
 use Rattle.law.proofs.Scenes.{many_more}
 use Rattle.law.proofs.Counts.{many_less}
-use Rattle.law.proofs.Changes.{kind, is_accepted, harmless}
+use Rattle.law.proofs.Changes.{kind}
 use Rattle.law.proofs.Passing.{passed, AllAccepted, box_lines}
 use Rattle.law.proofs.Alikes.{alike_adds, box_adds, sent_adds, one}
 use Rattle.law.proofs.Known.{issued_known, standing_known}

@@ -1,11 +1,11 @@
 -- What a history says is decided: each request either is or is not a given one.
-use Rattle.std.proofs.Common.{◌≡◌, ℕ, Bool, true, false, cond, eqb, ◌⊎◌, List, [], ◌∷◌, sym, refl, ap, ◌∙◌, subst, inl, inr, arith}
+use Rattle.std.proofs.Common.{◌≡◌, ℕ, cond, eqb, ◌⊎◌, List, [], ◌∷◌, sym, refl, ap, ◌∙◌, subst, inl, inr, arith}
 use mathlib.Core.List.Memᴰ
 use mathlib.Core.List.{Memᴰ}
 use Rattle.std.proofs.lemmas.Bool.{cases_eq}
 use Rattle.law.specs.Sound.{Link}
 use Rattle.law.specs.Requests.{Request, accepted, issue, assign, relieve, handback, trust, distrust, link, try, box, suspend, resume, withdraw, may}
-use Rattle.law.specs.Histories.{Event, Since, Is, Either, Enters, Issued, Holds, Trusts, Standing, Suspended}
+use Rattle.law.specs.Histories.{Event, Since, Is, Enters, Issued, Standing}
 use Rattle.law.proofs.Changes.{is_accepted}
 
 abbrev pub Known : Type 0 → Type 0

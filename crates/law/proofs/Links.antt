@@ -1,5 +1,5 @@
 -- Chains with one link more, and with none.
-use Rattle.std.proofs.Common.{◌≡◌, ℕ, ◌⊎◌, ◌↔◌, List, [], ◌∷◌, sym, refl, ap, subst, inl, inr}
+use Rattle.std.proofs.Common.{◌≡◌, ℕ, ◌⊎◌, ◌↔◌, List, [], sym, refl, ap, subst, inl, inr}
 use Rattle.search.specs.Chains.{Chain, alone, onward}
 use Rattle.search.proofs.Chaining.{chain_on, reaches_step, reaches_itself}
 use Rattle.offices.specs.Model.{OfficeModel}

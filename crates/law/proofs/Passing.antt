@@ -1,5 +1,5 @@
 -- What an accepted request has passed, and boxes line by line.
-use Rattle.std.proofs.Common.{◌≡◌, ℕ, suc, ◌⊎◌, List, [], ◌∷◌, refl, inl, inr, arith}
+use Rattle.std.proofs.Common.{◌≡◌, ℕ, suc, List, [], ◌∷◌, refl, inl, inr, arith}
 use Rattle.offices.specs.Model.{OfficeModel}
 use Rattle.law.specs.Sound.{Link, Sound}
 use Rattle.law.specs.Requests.{Answer, Reason, accepted, refused, link, box}

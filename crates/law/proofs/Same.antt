@@ -1,8 +1,8 @@
 -- Scenes and histories that say the same call for the same.
-use Rattle.std.proofs.Common.{◌≡◌, ℕ, suc, ◌⊎◌, ◌↔◌, List, [], ◌∷◌, inl, inr}
+use Rattle.std.proofs.Common.{◌≡◌, ℕ, suc, ◌↔◌, List, [], ◌∷◌, inl, inr}
 use mathlib.Core.Logic.Iff
 use Rattle.answers.specs.declared.Refusal.{Refusal}
-use Rattle.search.specs.Chains.{Chain, Best}
+use Rattle.search.specs.Chains.{Best}
 use Rattle.search.proofs.Chaining.{chain_wider}
 use Rattle.offices.specs.Model.{OfficeModel, SetModel}
 use Rattle.banks.specs.Codes.{office_of}

@@ -1,9 +1,9 @@
 -- The sample bank is lawful.
-use Rattle.std.proofs.Common.{◌≡◌, ℕ, zero, suc, ◌<◌, ◌≤◌, Bool, true, false, not, ◌&&◌, ◌||◌, eqb, ltb, ◌⊎◌, List, [], ◌∷◌, length, get_or, sym, refl, ◌∙◌, subst, inl, inr, arith}
+use Rattle.std.proofs.Common.{◌≡◌, ℕ, zero, suc, ◌<◌, ◌≤◌, Bool, true, not, ◌&&◌, ◌||◌, eqb, ltb, List, [], ◌∷◌, length, get_or, refl, subst, inl, inr, arith}
 use Rattle.std.specs.List.{AllByRecursion}
 use Rattle.std.proofs.lemmas.List.{get_or_past}
 use Rattle.std.proofs.lemmas.Bool.{and_parts, or_cases, eqb-true, ltb-true, not-true, false≢true, both_ways, cases_lt}
-use Rattle.offices.specs.Model.{OfficeModel, SetModel, Shaped, Lawful}
+use Rattle.offices.specs.Model.{SetModel, Shaped, Lawful}
 use Rattle.banks.specs.Banks.{office_at}
 use Rattle.banks.specs.Joined.{none_lawful}
 use Rattle.law.specs.Roles.{LawfulBank}

@@ -1,5 +1,5 @@
 -- Soundness of one scene from that of another, and of the scene in which nothing has happened.
-use Rattle.std.proofs.Common.{◌≡◌, ℕ, ◌<◌, ◌≤◌, Bool, true, false, ◌⊎◌, List, [], ◌∷◌, length, get_or, sym, refl, ◌∙◌, subst, inl, inr, arith}
+use Rattle.std.proofs.Common.{◌≡◌, ℕ, ◌<◌, ◌≤◌, true, List, [], ◌∷◌, length, get_or, sym, refl, ◌∙◌, subst, inl, inr, arith}
 use mathlib.Core.List.{Memᴰ}
 use native.Mathlib.Decide.{ℕ_discrete}
 use Rattle.std.proofs.ByRecursion.{All-get_or}
@@ -9,12 +9,11 @@ use Rattle.search.specs.Chains.{Chain, alone, onward, Reached}
 use Rattle.search.proofs.Chaining.{chain_wider, reaches_itself, reaches_step}
 use Rattle.offices.specs.Model.{OfficeModel, SetModel, Shaped}
 use Rattle.banks.specs.Banks.{office_at, no_office}
-use Rattle.banks.specs.Codes.{code, office_of, role_of}
+use Rattle.banks.specs.Codes.{office_of, role_of}
 use Rattle.law.specs.Roles.{LawfulBank, no_set, set_at, member_code, IsRole, IsSet, Over}
 use Rattle.law.specs.Counting.{Many}
 use Rattle.law.specs.Sound.{Link, Scene, Step, Leads, PlaceReached, Overreached, Outsiders, Sound}
-use Rattle.law.specs.Promises.{Within, MoreNeverMends, MoreSaidNeverMends, tested}
-use Rattle.law.specs.Histories.{scene}
+use Rattle.law.specs.Promises.{Within, MoreNeverMends, MoreSaidNeverMends}
 
 pub many_more : {A : Type 0} (P Q : A → Type 0) (n : ℕ) → ((x : A) → P x → Q x) → Many P n → Many Q n
 many_more P Q n f m = (m.0, m.1, λ x i. f x (m.2 x i), m.3)

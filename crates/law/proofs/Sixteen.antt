@@ -1,13 +1,13 @@
 -- When the answer is 16.
-use Rattle.std.proofs.Common.{◌≡◌, ℕ, suc, ◌<◌, ◌⊎◌, ◌↔◌, List, [], ◌∷◌, ◌++◌, sym, refl, ap, ◌∙◌, subst, inl, inr, arith}
+use Rattle.std.proofs.Common.{◌≡◌, ℕ, suc, ◌<◌, ◌↔◌, List, [], ◌∷◌, ◌++◌, sym, refl, ap, ◌∙◌, subst, inl, inr, arith}
 use Rattle.answers.specs.Numbers.{number_of}
 use Rattle.answers.specs.declared.Refusal.{Refusal}
 use Rattle.offices.specs.Model.{OfficeModel}
 use Rattle.law.specs.Sound.{Link, Scene, Sound}
-use Rattle.law.specs.Requests.{Request, Answer, Reason, accepted, refused, refused_at, granted, denied, answer_number, reason_number, issue, assign, relieve, handback, trust, distrust, link, try, box, suspend, resume, withdraw, may}
+use Rattle.law.specs.Requests.{Request, Answer, accepted, refused, answer_number, reason_number, issue, assign, relieve, handback, trust, distrust, link, try, box, suspend, resume, withdraw, may}
 use Rattle.law.specs.Histories.{Event, accepting, scene}
 use Rattle.law.specs.Checks.{Check, ◌when◌, unless_sound, FirstRefusal, linking, checks}
-use Rattle.law.specs.Right.{LinkAnswer, LinesAnswer, MayAnswer, CalledFor, Right}
+use Rattle.law.specs.Right.{LinkAnswer, LinesAnswer, MayAnswer, CalledFor}
 use Rattle.law.specs.Promises.{sent, NoneRefuses, earlier, CanHarm, by_assigning, by_distrusting, by_linking, by_trying, SixteenExactly, BoxSixteenExactly}
 use Rattle.law.proofs.Passing.{never, AllAccepted}
 use Rattle.law.proofs.Sounds.{right_sent, sent_right}

@@ -1,7 +1,6 @@
 -- Every right history is sound; a box and its links in any order come to the same.
-use Rattle.std.proofs.Common.{◌≡◌, ℕ, ◌<◌, List, [], ◌∷◌, ◌++◌, refl, inl, inr, arith}
+use Rattle.std.proofs.Common.{◌≡◌, ℕ, ◌<◌, List, [], ◌∷◌, refl, inl, arith}
 use mathlib.Core.List.Permᴰ
-use mathlib.Core.List.{Permᴰ}
 use Rattle.offices.specs.Model.{OfficeModel}
 use Rattle.law.specs.Sound.{Link, Sound}
 use Rattle.law.specs.Requests.{Request, Answer, accepted, refused, refused_at, granted, denied, issue, assign, relieve, handback, trust, distrust, link, try, box, suspend, resume, withdraw, may}

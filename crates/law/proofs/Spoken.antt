@@ -1,5 +1,5 @@
 -- What a short history says, in lists, and the answers that are checked over them by computing.
-use Rattle.std.proofs.Common.{◌≡◌, ℕ, ◌<◌, Bool, true, false, not, ◌&&◌, eqb, ltb, leb, ◌⊎◌, ◌↔◌, List, [], ◌∷◌, length, refl, ap, inl, inr, arith}
+use Rattle.std.proofs.Common.{◌≡◌, ℕ, ◌<◌, Bool, true, not, ◌&&◌, eqb, ltb, leb, List, [], ◌∷◌, length, refl, ap, inl, inr, arith}
 use mathlib.Core.List.Memᴰ
 use mathlib.Core.Logic.Iff
 use Rattle.std.proofs.lemmas.Bool.{and_parts, eqb-false, ltb-true, leb-true, not-true, both_ways}
@@ -9,7 +9,7 @@ use Rattle.banks.specs.Codes.{office_of, role_of}
 use Rattle.law.specs.Roles.{LawfulBank}
 use Rattle.law.specs.Sound.{Link, Scene, Sound}
 use Rattle.law.specs.Findings.{Finding, Finds}
-use Rattle.law.specs.Requests.{Request, Answer, accepted, refused, unsound, assign, trust, link}
+use Rattle.law.specs.Requests.{Answer, accepted, refused, unsound, assign, trust, link}
 use Rattle.law.specs.Histories.{Event, accepting, scene}
 use Rattle.law.specs.Checks.{Check, FirstRefusal, linking}
 use Rattle.law.specs.Examples.{among}

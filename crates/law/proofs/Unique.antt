@@ -1,14 +1,14 @@
 -- What a history calls for is one answer.
-use Rattle.std.proofs.Common.{◌≡◌, ℕ, zero, suc, ◌+◌, ◌*◌, ◌/◌, ◌%◌, ◌^◌, ◌<◌, ◌≤◌, ◌⊎◌, List, [], ◌∷◌, length, sym, refl, ap, ◌∙◌, subst, inl, inr, arith}
+use Rattle.std.proofs.Common.{◌≡◌, ℕ, suc, List, [], ◌∷◌, length, sym, refl, ap, ◌∙◌, subst, inl, inr, arith}
 use Rattle.std.proofs.lemmas.Bool.Decides.{same_from_decides}
-use Rattle.search.specs.Chains.{Best, Before}
+use Rattle.search.specs.Chains.{Best}
 use Rattle.search.proofs.Unique.{before_same, best_same, best_reached}
 use Rattle.offices.specs.Model.{OfficeModel, SetModel}
 use Rattle.offices.specs.Word.{bit}
 use Rattle.law.specs.Roles.{set_at, member_code}
 use Rattle.law.specs.Sound.{Link, Scene, Step, Outsiders}
 use Rattle.law.specs.Findings.{Finding, breaks_hierarchy, breaks_exclusion, breaks_exposure, Marks, Found, Shows, Explains, Finds}
-use Rattle.law.specs.Requests.{Request, Answer, Reason, accepted, refused, issue, assign, relieve, handback, trust, distrust, link, try, box, suspend, resume, withdraw, may, strip_after, lines_after}
+use Rattle.law.specs.Requests.{Request, Answer, accepted, refused, issue, assign, relieve, handback, trust, distrust, link, try, box, suspend, resume, withdraw, may, strip_after, lines_after}
 use Rattle.law.specs.Histories.{Event, accepting}
 use Rattle.law.specs.Checks.{Check, ◌when◌, unless_sound, Says, FirstRefusal, linking, checks}
 use Rattle.law.specs.Right.{LinkAnswer, LinesAnswer, MayAnswer, Unrefused, CalledFor}

@@ -1,5 +1,5 @@
 -- The worked examples hold.
-use Rattle.std.proofs.Common.{◌≡◌, ℕ, ◌<◌, Bool, true, false, ◌⊎◌, List, [], ◌∷◌, refl, ap, inl, inr, arith}
+use Rattle.std.proofs.Common.{◌≡◌, ℕ, ◌<◌, true, false, ◌⊎◌, List, [], ◌∷◌, refl, ap, inl, inr, arith}
 use mathlib.Core.List.Memᴰ
 use mathlib.Core.List.{Memᴰ}
 use mathlib.Core.Logic.Iff
@@ -8,15 +8,15 @@ use Rattle.std.proofs.lemmas.Bool.{false≢true}
 use Rattle.search.specs.Chains.{Reached}
 use Rattle.law.specs.Sound.{Link, Scene, Step}
 use Rattle.law.specs.Findings.{Finding, breaks_hierarchy, breaks_exclusion, breaks_exposure}
-use Rattle.law.specs.Requests.{Request, Answer, Reason, accepted, refused, refused_at, granted, denied, plain, unsound, issue, assign, relieve, handback, trust, distrust, link, try, box, suspend, resume, withdraw, may}
-use Rattle.law.specs.Histories.{Event, accepting, Since, Issued, Holds, Trusts, Standing, Suspended, InForce, scene}
+use Rattle.law.specs.Requests.{Answer, accepted, refused, refused_at, granted, denied, plain, unsound, issue, assign, relieve, handback, trust, distrust, link, try, box, suspend, resume, withdraw, may}
+use Rattle.law.specs.Histories.{Event, accepting, Issued, Holds, Trusts, Standing, Suspended, InForce, scene}
 use Rattle.law.specs.Right.{LinkAnswer, CalledFor}
 use Rattle.law.specs.Examples.{sample, ◌⇢◌, ◌answers◌, exposed_by, WorkedExamples}
 use Rattle.law.proofs.Sample.{sample_lawful}
 use Rattle.law.proofs.Changes.{kind, standing_still, held_still}
 use Rattle.law.proofs.Sixteen.{link_ends, assign_ends, distrust_ends}
 use Rattle.law.proofs.Closures.{in_among}
-use Rattle.law.proofs.Judging.{Facts, Shown, role_is, hierarchy, exclusion, exposure, sound_by, finds, finds_by, best_in, held_same, Exact, exact_by}
+use Rattle.law.proofs.Judging.{Facts, Shown, hierarchy, exclusion, exposure, sound_by, finds, finds_by, best_in, held_same, Exact, exact_by}
 use Rattle.law.proofs.Spoken.{no_facts, shown_new, with_link, shown_link, with_card, shown_assign, with_trust, shown_trust, shown_quiet, linkable, linkable_by, accepted_by, refused_by}
 
 -- the codes of the sample's roles

@@ -1,6 +1,5 @@
 -- The sample bank, and worked examples over it.
-use Rattle.std.specs.Prelude.{◌≡◌, ℕ, Bool, true, false, ◌||◌, List, [], ◌∷◌, length, ◌==◌, slice_index_or}
-use Rattle.answers.specs.declared.Refusal.{Refusal}
+use Rattle.std.specs.Prelude.{◌≡◌, ℕ, Bool, false, ◌||◌, List, [], ◌∷◌, length, ◌==◌, slice_index_or}
 use Rattle.answers.specs.declared.Refusal.TheVariants.{NoSuchCode, NoSuchCard, ShortStrip, SameOffice, NotLinked, AlreadyInForce, NotShared, NotHeld}
 use Rattle.offices.specs.Model.{OfficeModel, SetModel}
 use Rattle.law.specs.Sound.{Link}

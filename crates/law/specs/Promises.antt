@@ -1,5 +1,5 @@
 -- What is promised of every register, as theorems about histories.
-use Rattle.std.specs.Prelude.{◌≡◌, ℕ, ◌≤◌, Bool, true, false, ◌⊎◌, ◌↔◌, List, [], ◌∷◌, ◌++◌, length, ◌≢◌}
+use Rattle.std.specs.Prelude.{◌≡◌, ℕ, ◌≤◌, Bool, true, ◌⊎◌, ◌↔◌, List, [], ◌∷◌, ◌++◌, length, ◌≢◌}
 use mathlib.Core.List.{Permᴰ}
 use Rattle.answers.specs.declared.Refusal.TheVariants.{LinksFull}
 use Rattle.offices.specs.Model.{OfficeModel}
@@ -9,7 +9,7 @@ use Rattle.law.specs.Roles.{LawfulBank, IsRole, Over}
 use Rattle.law.specs.Counting.{Many}
 use Rattle.law.specs.Sound.{Link, Scene, Sound, Leads}
 use Rattle.law.specs.Requests.{Request, Answer, accepted, refused, plain, answer_number, chain_of, link, try, assign, distrust, box}
-use Rattle.law.specs.Histories.{Event, accepting, Issued, Holds, Trusts, Standing, Suspended, scene, Alike}
+use Rattle.law.specs.Histories.{Event, accepting, Issued, Holds, Standing, Suspended, scene, Alike}
 use Rattle.law.specs.Checks.{Check, ◌when◌, unless_sound, Refuses, checks}
 use Rattle.law.specs.Right.{CalledFor, Right, ComesTo}
 

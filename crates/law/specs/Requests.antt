@@ -1,5 +1,5 @@
 -- Requests, their answers, and what an answer writes.
-use Rattle.std.specs.Prelude.{ℕ, List, [], ◌∷◌, ◌++◌, length, drop, replicate, slice_set}
+use Rattle.std.specs.Prelude.{ℕ, List, [], ◌++◌, length, drop, replicate, slice_set}
 use Rattle.answers.specs.Numbers.{number_of}
 use Rattle.answers.specs.declared.Refusal.{Refusal}
 use Rattle.answers.specs.declared.Refusal.TheVariants.{Unsound}

@@ -1,9 +1,9 @@
 -- Rows stay exact as links are added, and are exact with no link where they have the juniors.
-use Rattle.std.proofs.Common.{◌≡◌, ℕ, ◌<◌, Bool, true, false, ◌&&◌, ◌||◌, ◌⊎◌, List, [], ◌∷◌, Decides, sym, refl, ap, ◌∙◌, subst, ap₂, inl, inr, ⊎_elim}
+use Rattle.std.proofs.Common.{◌≡◌, ℕ, ◌<◌, Bool, true, ◌&&◌, ◌||◌, ◌⊎◌, List, Decides, sym, refl, ap, ◌∙◌, subst, inl, inr, ⊎_elim}
 use Rattle.std.proofs.lemmas.Bool.{cases_eq, and_parts, and_from, or_cases, or_left, or_right}
 use Rattle.search.specs.Chains.{Chain, alone, onward, Reaches, Reached}
 use Rattle.search.proofs.Chaining.{chain_on, chain_wider, reaches_step, reaches_itself}
-use Rattle.offices.specs.Model.{OfficeModel, Lawful}
+use Rattle.offices.specs.Model.{OfficeModel}
 use Rattle.offices.specs.Order.{Order}
 use Rattle.banks.specs.Banks.{office_at}
 use Rattle.banks.specs.Codes.{office_of, role_of}

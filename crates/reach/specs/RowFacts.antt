@@ -1,12 +1,11 @@
 -- Rows of role sets read as codes.
-use Rattle.std.specs.Prelude.{◌≡◌, ℕ, ◌+◌, ◌*◌, ◌/◌, ◌%◌, ◌<◌, ◌≤◌, Bool, true, false, ◌&&◌, ◌||◌, List, length, set, replicate, ◌==◌, nat_lt, slice_set, refl}
-use Rattle.std.proofs.Common.{sym, ap, ap₂, subst, ◌∙◌, ⊎_elim, arith, mod-lt}
+use Rattle.std.specs.Prelude.{◌≡◌, ℕ, ◌+◌, ◌*◌, ◌/◌, ◌%◌, ◌<◌, ◌≤◌, false, ◌&&◌, ◌||◌, List, length, replicate, ◌==◌, nat_lt, slice_set}
+use Rattle.std.proofs.Common.{sym, ap, ap₂, ◌∙◌, ⊎_elim, arith, mod-lt}
 use Rattle.std.proofs.lemmas.Nat.{div-mul-add, mod-mul-add}
-use Rattle.std.proofs.lemmas.List.{get_or-replicate}
-use Rattle.std.proofs.lemmas.Bool.{cases_lt, cases_eq, eq-eqb, ne_eqb, lt-ltb, le-ltb, and_left}
-use Rattle.offices.specs.Members.{holds, nobody, row_holds}
+use Rattle.std.proofs.lemmas.Bool.{cases_lt, cases_eq, eq-eqb, ne_eqb, lt-ltb, and_left}
+use Rattle.offices.specs.Members.{holds, row_holds}
 use Rattle.offices.specs.declared.role_set.RoleSet.{RoleSet}
-use Rattle.offices.proofs.Bit.{or_false, and_true}
+use Rattle.offices.proofs.Bit.{or_false}
 use Rattle.offices.proofs.RowFacts.{row_past, row_set_same, row_set_other, row_replicate}
 use Rattle.reach.specs.declared.row.Row.{Row}
 use Rattle.reach.specs.Rows.{has}

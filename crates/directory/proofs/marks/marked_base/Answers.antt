@@ -1,6 +1,5 @@
-use Rattle.std.proofs.Common.{◌≡◌, ℕ, ◌+◌, ◌<◌, sym, ap, ◌∙◌, subst, arith}
+use Rattle.std.proofs.Common.{◌≡◌, ◌+◌, ◌<◌, sym, ap, ◌∙◌, subst, arith}
 use Rattle.offices.specs.Model.{OfficeModel}
-use Rattle.offices.specs.Bases.{base_roles}
 use Rattle.offices.specs.declared.base.OfficeBase.{OfficeBase}
 use Rattle.banks.specs.Banks.{office_at}
 use Rattle.directory.proofs.Gathering.{gathered_none, gathered_no, gathered_all}

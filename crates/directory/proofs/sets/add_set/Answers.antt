@@ -1,4 +1,4 @@
-use Rattle.std.proofs.Common.{◌≡◌, ◌-◌, take, sym, refl, ap, ◌∙◌, arith}
+use Rattle.std.proofs.Common.{◌≡◌, ◌-◌, take, ap, ◌∙◌, arith}
 use Rattle.offices.specs.Model.{OfficeModel}
 use Rattle.offices.specs.Bases.{base_roles, base_sets}
 use Rattle.banks.specs.Banks.{office_at}

@@ -1,4 +1,4 @@
-use Rattle.std.proofs.Common.{◌≡◌, ◌<◌, length, vec_items, sym, ◌∙◌, subst, arith}
+use Rattle.std.proofs.Common.{◌<◌, length, vec_items, sym, ◌∙◌, subst, arith}
 use Rattle.std.proofs.lemmas.List.{take_all}
 use Rattle.law.specs.Roles.{LawfulBank}
 use Rattle.directory.specs.Heard.{heard}
@@ -6,7 +6,7 @@ use Rattle.directory.proofs.Listing.{entered_more}
 use Rattle.directory.proofs.directory.Directory.read.Goals as goal
 
 pub invariant_of-result : goal.invariant_of-result
-invariant_of-result g c = (omega (arith, c.loop-office.invariant.1, g.met.B.Bank.heard c.args.bank.now, c.office_count-count.ensures), tt)
+invariant_of-result g c = omega (arith, c.loop-office.invariant.1, g.met.B.Bank.heard c.args.bank.now, c.office_count-count.ensures)
 
 pub loop-office-preserved : goal.loop-office-preserved
 loop-office-preserved g c =

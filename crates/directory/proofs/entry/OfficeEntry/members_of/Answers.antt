@@ -1,4 +1,4 @@
-use Rattle.std.proofs.Common.{sym, ap, ◌∙◌, arith}
+use Rattle.std.proofs.Common.{sym, ◌∙◌, arith}
 use Rattle.offices.specs.Bases.{base_sets}
 use Rattle.offices.proofs.RowFacts.{row_past}
 use Rattle.directory.proofs.Listing.{words_from}

@@ -1,6 +1,5 @@
-use Rattle.std.proofs.Common.{◌≡◌, ℕ, sym, ◌∙◌, subst, rules}
+use Rattle.std.proofs.Common.{sym, ◌∙◌, subst, rules}
 use mathlib.Core.Path.{fun_ext}
-use Rattle.offices.specs.Bases.{base_roles}
 use Rattle.offices.specs.Members.{row_holds}
 use Rattle.offices.specs.Order.{Order}
 use Rattle.banks.specs.Banks.{office_at}
@@ -13,7 +12,12 @@ invariant_of-result g c =
     let law = g.met.B.Bank.lawful c.args.bank.now c.args.office in
     let over = fun_ext (λ a. fun_ext (λ b. c.seniority_of-juniors.ensures a b)) in
     let roles = c.add_sets.ensures.roles ∙ c.marked_base-base.ensures.roles in
-    (search rules, (search rules, (∣ subst (λ n. Order n (row_holds c.seniority_of-juniors.result)) (sym roles) (subst (Order m.roles) (sym over) law.order) ∣₁, (∣ c.words_of-members.ensures ∣₁, tt))))
+    record {
+      roles = search rules;
+      sets = search rules;
+      order = ∣ subst (λ n. Order n (row_holds c.seniority_of-juniors.result)) (sym roles) (subst (Order m.roles) (sym over) law.order) ∣₁;
+      words = ∣ c.words_of-members.ensures ∣₁;
+    }
 
 pub returns : goal.returns
 returns g c =

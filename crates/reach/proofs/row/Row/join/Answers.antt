@@ -1,4 +1,4 @@
-use Rattle.std.proofs.Common.{◌≡◌, ℕ, ◌/◌, ◌%◌, ◌<◌, ◌||◌, ap, ◌∙◌, arith, below_more}
+use Rattle.std.proofs.Common.{◌/◌, ◌%◌, ◌||◌, ap, ◌∙◌, arith, below_more}
 use Rattle.std.proofs.lemmas.List.{length-set}
 use Rattle.offices.specs.Members.{row_holds}
 use Rattle.offices.proofs.RowFacts.{row_set_same, row_set_other}

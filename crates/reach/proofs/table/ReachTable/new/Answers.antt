@@ -11,7 +11,7 @@ returns c = record {
 }
 
 pub returns-in_err-cards : goal.returns-in_err-cards
-returns-in_err-cards c = IfOk-from_err c.from-residual-in_err-cards.result NothingReached c.from-residual-in_err-cards.ensures.0
+returns-in_err-cards c = IfOk-from_err c.from_residual-in_err-cards.result NothingReached c.from_residual-in_err-cards.ensures.0
 
 pub returns-in_err-owners : goal.returns-in_err-owners
-returns-in_err-owners c = IfOk-from_err c.from-residual-in_err-owners.result NothingReached c.from-residual-in_err-owners.ensures.0
+returns-in_err-owners c = IfOk-from_err c.from_residual-in_err-owners.result NothingReached c.from_residual-in_err-owners.ensures.0

@@ -7,4 +7,4 @@ pub returns : goal.returns
 unfolding code_reaches card_reaches owner_reaches
 returns c =
     let self = c.args.self.now in
-    record { codes = λ a b. refl; cards = put_vec self.cards c.deref-mut.result.now c.put.new.rows c.deref-mut.ensures.value (omega arith) 256 c.args.card c.args.row (omega arith) c.put.ensures; owners = λ a b. refl }
+    record { codes = λ a b. refl; cards = put_vec self.cards c.deref_mut.result.now c.put.new.rows c.deref_mut.ensures.value (omega arith) 256 c.args.card c.args.row (omega arith) c.put.ensures; owners = λ a b. refl }

@@ -7,4 +7,4 @@ pub returns : goal.returns
 unfolding code_reaches card_reaches owner_reaches
 returns c =
     let self = c.args.self.now in
-    record { codes = put_vec self.codes c.deref-mut.result.now c.put.new.rows c.deref-mut.ensures.value (omega arith) 1024 c.args.code c.args.row (omega arith) c.put.ensures; cards = λ a b. refl; owners = λ a b. refl }
+    record { codes = put_vec self.codes c.deref_mut.result.now c.put.new.rows c.deref_mut.ensures.value (omega arith) 1024 c.args.code c.args.row (omega arith) c.put.ensures; cards = λ a b. refl; owners = λ a b. refl }
