@@ -1,9 +1,8 @@
 -- Accepted requests of the card room and about trust keep tables and history in accord.
-use Rattle.std.proofs.Common.{◌≡◌, ℕ, ◌<◌, Bool, true, false, cond, ◌&&◌, eqb, ◌⊎◌, ◌↔◌, List, ◌∷◌, Some, None, Option, sym, refl, ap, ◌∙◌, subst, inl, inr, arith}
+use Rattle.std.proofs.Common.{◌≡◌, ℕ, true, false, cond, eqb, ◌↔◌, List, Some, None, sym, refl, ap, ◌∙◌, subst, inl, inr, arith}
 use mathlib.Core.Logic.Iff
 use Rattle.std.proofs.lemmas.Bool.{cases_eq, both_ways}
 use Rattle.banks.specs.Codes.{office_of, role_of}
-use Rattle.law.specs.Sound.{Link}
 use Rattle.law.specs.Requests.{Request, accepted, issue, assign, relieve, handback, trust, distrust}
 use Rattle.law.specs.Histories.{Event, accepting, Issued, Holds, Trusts}
 use Rattle.law.proofs.Changes.{kind, issued_still, held_still, trusted_still, standing_still, suspended_still}

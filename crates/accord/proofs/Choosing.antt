@@ -1,5 +1,5 @@
 -- Choices by a number or a pair of numbers, options, and tables that say the same.
-use Rattle.std.proofs.Common.{◌≡◌, ℕ, ◌<◌, Bool, true, false, cond, ◌&&◌, eqb, ◌⊎◌, ◌↔◌, List, ◌∷◌, Some, None, Option, sym, refl, ap, ◌∙◌, subst, inl, inr, arith}
+use Rattle.std.proofs.Common.{◌≡◌, ℕ, ◌<◌, cond, ◌&&◌, eqb, ◌⊎◌, ◌↔◌, List, Some, None, Option, sym, ◌∙◌, subst, inl, inr, arith}
 use mathlib.Core.Logic.Iff
 use Rattle.std.proofs.lemmas.Bool.{cases_eq, eq-eqb, ne_eqb, and_from, and_left, and_right, cond-true, cond-false}
 use Rattle.banks.specs.Codes.{office_of, role_of}

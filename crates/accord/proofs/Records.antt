@@ -1,11 +1,10 @@
 -- Accepted requests about links keep tables and history in accord.
-use Rattle.std.proofs.Common.{◌≡◌, ℕ, suc, ◌-◌, ◌<◌, ◌≤◌, Bool, true, false, cond, eqb, ltb, ◌⊎◌, ◌↔◌, List, [], ◌∷◌, sym, refl, ap, ◌∙◌, subst, inl, inr, arith}
+use Rattle.std.proofs.Common.{◌≡◌, ℕ, suc, ◌-◌, ◌<◌, ◌≤◌, true, false, cond, eqb, ltb, ◌⊎◌, ◌↔◌, List, sym, refl, ap, ◌∙◌, inl, inr, arith}
 use mathlib.Core.Logic.Iff
 use Rattle.std.proofs.lemmas.Bool.{cases_eq, cases_lt, both_ways, lt-ltb, le-ltb, cond-true, cond-false}
 use Rattle.law.specs.Sound.{Link}
-use Rattle.law.specs.Requests.{Request, accepted, link, suspend, resume, withdraw}
+use Rattle.law.specs.Requests.{accepted, link, suspend, resume, withdraw}
 use Rattle.law.specs.Histories.{Event, accepting, Standing, Suspended}
-use Rattle.law.specs.Promises.{sent}
 use Rattle.law.proofs.Changes.{kind, issued_still, held_still, trusted_still, standing_still, suspended_still}
 use Rattle.law.proofs.Alikes.{one}
 use Rattle.accord.specs.Tables.{Tables, Recorded, Resting}

@@ -1,5 +1,5 @@
 -- How a request is settled by the tables: the law's checks read off them, and what each accepted request changes.
-use Rattle.std.specs.Prelude.{◌≡◌, ℕ, suc, ◌+◌, ◌-◌, ◌<◌, ◌≤◌, Bool, true, false, cond, not, ◌&&◌, ◌||◌, ◌⊎◌, List, [], ◌∷◌, Some, None, Option, ◌==◌, ◌≢◌, nat_lt}
+use Rattle.std.specs.Prelude.{◌≡◌, ℕ, suc, ◌-◌, ◌<◌, ◌≤◌, Bool, true, false, cond, ◌&&◌, ◌⊎◌, List, [], ◌∷◌, Some, None, Option, ◌==◌, ◌≢◌, nat_lt}
 use Rattle.answers.specs.declared.Refusal.TheVariants.{NoSuchOffice, NoSuchCode, NoSuchCard, ShortStrip, SameOffice, AlreadyLinked, NotLinked, AlreadySuspended, AlreadyInForce, NotShared, OwnTrust, AlreadyIssued, NotIssued, ForeignRole, AlreadyHeld, NotHeld, LinksFull}
 use Rattle.search.specs.Chains.{Best, Reached}
 use Rattle.offices.specs.Model.{OfficeModel}
