@@ -1,9 +1,8 @@
-// Sixteen full offices, asked every question: time it with `time target/bin/bench`. What it prints is how many
+// Sixteen full offices, asked every question: time `out/bench` after `rt run`. What it prints is how many
 // of the answers were yes, so that no answer can be left out.
 #![tactic(auto)]
 
 use banks::{Bank, Join, One};
-use drafting::Seniority;
 use list_office::{ListDraft, ListOffice};
 use offices::Office;
 use std::io;

@@ -1,7 +1,6 @@
 // Banks of any mix of offices, a foreign one among them.
 use crate::columns::Columns;
 use banks::{Bank, Join, One, RoleAt, code_of, role_at};
-use drafting::Seniority;
 use list_office::ListDraft;
 use offices::Office;
 use std::process::Abort;

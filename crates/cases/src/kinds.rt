@@ -1,6 +1,5 @@
 // Drafting each kind of office, and the layers.
 use answers::Refusal;
-use drafting::Seniority;
 use layers::{HouseDraft, WithheldDraft};
 use list_office::ListDraft;
 use matrix_office::MatrixDraft;

@@ -1,6 +1,5 @@
 use crate::notes::yes_or_no;
 use banks::{Bank, Join, One, code_of, role_at};
-use drafting::Seniority;
 use layers::{HouseRules, Withheld};
 use list_office::ListOffice;
 use matrix_office::MatrixOffice;

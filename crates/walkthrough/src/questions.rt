@@ -1,5 +1,4 @@
 use crate::notes::{role_name, yes_or_no};
-use drafting::Seniority;
 use list_office::ListOffice;
 use offices::Office;
 use search::{Outcome, best_chain};
