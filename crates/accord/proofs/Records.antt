@@ -63,10 +63,10 @@ module _ (t : Tables) (h : List Event) (n : ℕ) (a : Agree t h) where
 
       separate : (i j : ℕ) → i < j → j < suc t.count → cond (eqb i t.count) l (t.link i) ≡ cond (eqb j t.count) l (t.link j) → ⊥
       separate i j k m e =
-          let i-old = at_other i t.count l (t.link i) (λ f. omega arith) in
+          let i_old = at_other i t.count l (t.link i) (λ f. omega arith) in
           elim (cases_eq j t.count) [
-            | inl f ↦ new (i, omega arith, sym i-old ∙ e ∙ at_it j t.count l (t.link j) f)
-            | inr d ↦ a.apart i j k (omega arith) (sym i-old ∙ e ∙ at_other j t.count l (t.link j) d)
+            | inl f ↦ new (i, omega arith, sym i_old ∙ e ∙ at_it j t.count l (t.link j) f)
+            | inr d ↦ a.apart i j k (omega arith) (sym i_old ∙ e ∙ at_other j t.count l (t.link j) d)
           ]
 
   module _ (l : Link) (k : ℕ) (at : At t l k) where

@@ -1,3 +1,3 @@
 pub mod Columns
 pub mod Tables
-pub mod ColumnsOfficeLemmas
+pub mod ColumnsOrder

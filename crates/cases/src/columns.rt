@@ -3,7 +3,7 @@ ghost use Rattle.std.specs.Prelude.{◌≡◌, ◌%◌, ◌≤◌, min, ◌==◌
 ghost use Rattle.std.proofs.Common.{◌∙◌, arith};
 ghost use Rattle.cases.specs.Columns.{columns_model};
 ghost use Rattle.std.proofs.lemmas.Bool.{and_parts, ltb-true};
-ghost use Rattle.cases.specs.ColumnsOfficeLemmas.{told, tell};
+ghost use Rattle.cases.specs.ColumnsOrder.{told, tell};
 
 use offices::Office;
 

@@ -1,4 +1,4 @@
-ghost use Rattle.std.specs.Prelude.{◌≡◌, ℕ, ◌+◌, ◌<◌, ◌≤◌, [], length, take};
+ghost use Rattle.std.specs.Prelude.{◌≡◌, ◌+◌, ◌<◌, ◌≤◌, [], length, take};
 ghost use Rattle.banks.specs.Banks.{office_at};
 ghost use Rattle.directory.specs.SetWords.{members_at};
 ghost use Rattle.offices.specs.Bases.{base_roles, base_sets, base_shared};

@@ -132,9 +132,9 @@ module _ (bank : List OfficeModel) (lawful : LawfulBank bank) where
 
   -- the scene of a new register
   pub new_sound : (s : Scene) → ((l : Link) → s.linked l → ⊥) → ((c r : ℕ) → s.held c r → ⊥) → ((o : ℕ) → s.trusted o o) → Sound bank s
-  new_sound s no_link no-hold itself = record {
+  new_sound s no_link no_hold itself = record {
     hierarchy = λ a b ra rb same r. chain_over s.linked no_link ra r.1;
-    exclusion = λ o k c x. no-hold c _ (some_reached s (s.held c) o k x).1.1.1;
+    exclusion = λ o k c x. no_hold c _ (some_reached s (s.held c) o k x).1.1.1;
     exposure = λ o k x.
         let r = some_reached s (Outsiders bank s o) o k x in
         let y = r.1.1 in

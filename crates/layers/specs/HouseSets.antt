@@ -58,11 +58,11 @@ module _ (m : OfficeModel) (n : ℕ) (own : List SetModel) where
   no_set k l h (inr f) = slice_get_past (house_model m n own).sets k (omega (arith, length_not f))
 
   pub house_lawful : Lawful m → AllByRecursion (Shaped n) own → Lawful (house_model m n own)
-  house_lawful w own-shaped = record {
+  house_lawful w own_shaped = record {
     few = w.few;
     order = w.order;
     marks = w.marks;
     eight = length_house w.eight;
     shaped = All-append (Shaped m.roles) m.sets (fitting m n own) w.shaped
-        (F.fitted_shaped n m.roles (8 - length m.sets) own own-shaped);
+        (F.fitted_shaped n m.roles (8 - length m.sets) own own_shaped);
   }

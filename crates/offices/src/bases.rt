@@ -1,4 +1,4 @@
-ghost use Rattle.std.specs.Prelude.{◌≡◌, ℕ, min, Bool, false, [], length};
+ghost use Rattle.std.specs.Prelude.{◌≡◌, ℕ, min, Bool, length};
 ghost use Rattle.offices.specs.Bases.{base_roles, base_sets, base_shared, office_with};
 ghost use Rattle.offices.specs.Drafting.{Keeps, share, exclude, mark_answer, after_mark, set_answer, after_set, fresh};
 ghost use Rattle.offices.specs.Model.{bound_at, member_at};

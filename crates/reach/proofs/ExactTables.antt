@@ -16,9 +16,9 @@ module _ (bank : List OfficeModel) (held outsiders : ℕ → ℕ → Type 0) whe
         (t t' : ReachTable) (u v : ℕ) → IsRole bank v → Entered t u v t'
         → ExactTable bank linked held outsiders t → ExactTable bank (WithLink linked u v) held outsiders t'
     table_more t t' u v role e x =
-        let g = code_reaches t v in let exact-v = x.roles v role in
+        let g = code_reaches t v in let exact_v = x.roles v role in
         let row : (Start : ℕ → Type 0) (f f' : ℕ → Bool) → ((b : ℕ) → f' b ≡ joined f u g b) → Exact bank linked Start f → Exact bank (WithLink linked u v) Start f' =
-        λ Start f f' is ef. exact_same bank (WithLink linked u v) Start (joined f u g) f' is (exact_more bank linked u v Start f g ef exact-v) in
+        λ Start f f' is ef. exact_same bank (WithLink linked u v) Start (joined f u g) f' is (exact_more bank linked u v Start f g ef exact_v) in
         record {
           roles = λ a r. row (Only a) (code_reaches t a) (code_reaches t' a) (e.codes a) (x.roles a r);
           others = λ a b no. e.codes a b ∙ ap₂ (λ p q. p || (q && g b)) (x.others a b no) (x.others a u no);

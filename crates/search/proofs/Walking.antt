@@ -6,7 +6,7 @@ use Rattle.search.specs.Chains.{Chain, alone, onward, Best, Before}
 use Rattle.search.specs.Asked.{Steps, Marked}
 use Rattle.search.specs.Arrivals.{Shortest}
 use Rattle.search.specs.Layers.{Layered, turned, only, marked}
-use Rattle.search.specs.Walks.{Least, Starting, Following, Any, Descends, Walked, Traced}
+use Rattle.search.specs.Walks.{Least, Starting, Following, SomeBelow, Descends, Walked, Traced}
 use Rattle.search.proofs.Reaching.{chain_some}
 
 module _ (n : ℕ) (s : ℕ → ℕ → Bool) (inside : (a b : ℕ) → s a b ≡ true → (a < n) × (b < n)) (t k : ℕ) (d : List ℕ) (lk : k < 65534) (lt : t < n) (p : Layered n (turned s) (only t) k d) where
@@ -99,7 +99,7 @@ module _ (n : ℕ) (s : ℕ → ℕ → Bool) (inside : (a b : ℕ) → s a b �
         (λ l. omega arith)
         (cases_lt (get_or d a 0) k)
 
-    pub starting : Any n (Starting (marked marks) d k)
+    pub starting : SomeBelow n (Starting (marked marks) d k)
     starting =
         let o = sh.one in
         (o.0, o.2.0, (o.2.1, start_at o.0 o.1 o.2 o.3 o.4))

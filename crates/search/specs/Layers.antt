@@ -1,5 +1,5 @@
 -- Distances from the starts, layer by layer, in a list: 65535 stands for none yet.
-use Rattle.std.specs.Prelude.{◌≡◌, ℕ, ◌+◌, ◌<◌, ◌≤◌, Bool, true, false, cond, ◌&&◌, ltb, ◌⊎◌, List, length, ◌==◌, ◌≢◌, nat_eq, nat_lt, slice_index, slice_index_or}
+use Rattle.std.specs.Prelude.{◌≡◌, ℕ, ◌+◌, ◌<◌, ◌≤◌, Bool, true, false, cond, ◌&&◌, ◌⊎◌, List, length, ◌==◌, ◌≢◌, nat_lt, slice_index, slice_index_or}
 use Rattle.search.specs.Chains.{tally}
 
 -- the steps turned round
@@ -37,10 +37,10 @@ pub record Grown (k : ℕ) (d e : List ℕ) : Type 0 where
 
 -- how many nodes have the distance k, and how many have one below k
 abbrev pub at_layer : ℕ → List ℕ → ℕ → ℕ
-at_layer k d n = tally (λ v. nat_eq (slice_index d v) k) n
+at_layer k d n = tally (λ v. slice_index d v == k) n
 
 abbrev pub below_layer : ℕ → List ℕ → ℕ → ℕ
-below_layer k d n = tally (λ v. ltb (slice_index d v) k) n
+below_layer k d n = tally (λ v. nat_lt (slice_index d v) k) n
 
 -- what one layer keeps: d₀ before it, d once the nodes below u are seen
 pub record Turning (n : ℕ) (s : ℕ → ℕ → Bool) (k u m : ℕ) (d₀ d : List ℕ) : Type 0 where

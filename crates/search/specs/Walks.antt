@@ -17,16 +17,16 @@ abbrev pub Following : (ℕ → ℕ → Bool) → ℕ → List ℕ → ℕ → �
 Following s u d k v = (s u v ≡ true) × (slice_index d v ≡ k)
 
 -- some number below n has P
-abbrev pub Any : ℕ → (ℕ → Type 0) → Type 0
-Any n P = (v : ℕ) × (v < n) × P v
+abbrev pub SomeBelow : ℕ → (ℕ → Type 0) → Type 0
+SomeBelow n P = (v : ℕ) × (v < n) × P v
 
 -- none below i has P
-abbrev pub None : ℕ → (ℕ → Type 0) → Type 0
-None i P = (v : ℕ) → v < i → P v → ⊥
+abbrev pub NoneBelow : ℕ → (ℕ → Type 0) → Type 0
+NoneBelow i P = (v : ℕ) → v < i → P v → ⊥
 
 -- from each node with a distance a step leads to one that is nearer
 abbrev pub Descends : ℕ → (ℕ → ℕ → Bool) → List ℕ → Type 0
-Descends n s d = (v j : ℕ) → v < n → slice_index d v ≡ j + 1 → j < 65534 → Any n (Following s v d j)
+Descends n s d = (v j : ℕ) → v < n → slice_index d v ≡ j + 1 → j < 65534 → SomeBelow n (Following s v d j)
 
 -- the places 0 to i of xs hold the walk, and the others what they held in old
 pub record Walked (n : ℕ) (s : ℕ → ℕ → Bool) (st : ℕ → Bool) (k : ℕ) (d : List ℕ) (i : ℕ) (old xs : List ℕ) : Type 0 where

@@ -1,10 +1,10 @@
 // The walk from the best start to the target, and the whole search.
-ghost use Rattle.std.specs.Prelude.{◌≡◌, ◌+◌, ◌<◌, ◌≤◌, length};
+ghost use Rattle.std.specs.Prelude.{◌+◌, ◌<◌, ◌≤◌, length};
 ghost use Rattle.search.specs.Asked.{Steps, Marked};
 ghost use Rattle.search.specs.Arrivals.{Shortest};
 ghost use Rattle.search.specs.Layers.{Layered, marked};
 ghost use Rattle.search.specs.Outcomes.{Searched};
-ghost use Rattle.search.specs.Walks.{Any, Least, Starting, Following, Descends, Walked, Traced};
+ghost use Rattle.search.specs.Walks.{SomeBelow, Least, Starting, Following, Descends, Walked, Traced};
 
 use crate::Outcome;
 use crate::graph::Graph;
@@ -13,7 +13,7 @@ use crate::steps::{NearerSteps, StepTest};
 
 // The smallest start at distance k.
 fn first_start(starts: &[bool], n: usize, home: &[u16], k: usize) -> usize
-    requires { (n ≤ length starts.now) × ((n ≤ length home.now) × (Any n (Starting (marked starts.now) home.now k))) }
+    requires { (n ≤ length starts.now) × ((n ≤ length home.now) × (SomeBelow n (Starting (marked starts.now) home.now k))) }
     ensures { Least n (Starting (marked starts.now) home.now k) result }
 {
     for v in 0..n {
@@ -26,7 +26,7 @@ fn first_start(starts: &[bool], n: usize, home: &[u16], k: usize) -> usize
 
 // The smallest node at distance k to which a step leads from u.
 fn next_node<S: StepTest>(test: &S, n: usize, u: usize, home: &[u16], k: usize) -> usize
-    requires { (n ≤ length home.now) × (Any n (Following (S.leads test.now) u home.now k)) }
+    requires { (n ≤ length home.now) × (SomeBelow n (Following (S.leads test.now) u home.now k)) }
     ensures { Least n (Following (S.leads test.now) u home.now k) result }
 {
     for v in 0..n {
@@ -48,7 +48,7 @@ fn walk<S: StepTest>(
 )
     requires all { (n ≤ 1024) × (steps < 65534) }
     requires room { (n ≤ length starts.now) × ((n ≤ length home.now) × (steps < length strip.old)) }
-    requires start { Any n (Starting (marked starts.now) home.now steps) }
+    requires start { SomeBelow n (Starting (marked starts.now) home.now steps) }
     requires down { Descends n (S.leads test.now) home.now }
     ensures { Walked n (S.leads test.now) (marked starts.now) steps home.now steps strip.old strip.new }
 {

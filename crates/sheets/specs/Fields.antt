@@ -1,5 +1,5 @@
 -- What stands in the columns of a line that reads.
-use Rattle.std.specs.Prelude.{◌≡◌, ℕ, ◌+◌, ◌*◌, ◌<◌, ◌≤◌, ◌⊎◌, List, ◌≢◌, slice_index, slice_index_or}
+use Rattle.std.specs.Prelude.{◌≡◌, ℕ, ◌+◌, ◌*◌, ◌<◌, ◌≤◌, ◌⊎◌, List, ◌≢◌, slice_index}
 use Rattle.sheets.specs.Columns.{counts}
 use Rattle.sheets.specs.Slips.{Slip, pair_slip, handback_slip, box_slip, send_slip, blank, Mark}
 use Rattle.sheets.specs.Reading.{first, second, mark_in}
@@ -15,10 +15,10 @@ pub record Proper (field : List ℕ) (n : ℕ) : Type 0 where
   -- no stray byte: each is a space or a digit
   pub clean : (i : ℕ) → i < 6 → (slice_index field i ≡ 32) ⊎ ((48 ≤ slice_index field i) × (slice_index field i ≤ 57))
   -- not blank, nor left-justified: a digit in the last column, and no space on a digit's right
-  pub ended : slice_index_or field 5 0 ≡ 32 → ⊥
+  pub ended : slice_index field 5 ≢ 32
   pub right : (i : ℕ) → i < 5 → slice_index field (i + 1) ≡ 32 → slice_index field i ≡ 32
   -- no leading zero, unless it is the whole number
-  pub lead : slice_index_or field 0 0 ≡ 48 → ⊥
+  pub lead : slice_index field 0 ≢ 48
   pub next : (i : ℕ) → i < 4 → slice_index field i ≡ 32 → slice_index field (i + 1) ≢ 48
   -- the digits make the number
   pub makes : value field ≡ n

@@ -36,7 +36,7 @@ FirstBad sole.Send line = BadAt (first line ≡ blank) (second line ≡ blank)
 -- a line reads as a token whose line it is, or as its first fault
 abbrev pub Reads : List ℕ → Result Token Fault → Type 0
 Reads line (Ok t) = Writable (meaning t) × (line ≡ written (meaning t))
-Reads line (Err WrongLength) = length line ≡ 20 → ⊥
+Reads line (Err WrongLength) = length line ≢ 20
 Reads line (Err UnknownWord) = (length line ≡ 20) × ((w : Word) → take 8 line ≢ word_of w)
 Reads line (Err (BadField column)) =
     (length line ≡ 20) × ((w : Word) × (take 8 line ≡ word_of w) × FirstBad w line column)

@@ -31,13 +31,13 @@ module _ (n : ℕ) (up : ℕ → Option ℕ) (over : ℕ → ℕ → Bool) (o : 
       let w = t.placed b p e in
       let s : (a : ℕ) → over a b ≡ (a == b || over a p) = λ a. t.step a b w.0 ∙ ap (λ u. (a == b) || on u (over a)) e in
       let pass : (a : ℕ) → over a p ≡ true → over a b ≡ true = λ a h. s a ∙ or_right (a == b) (over a p) h in
-      let self-b : over b b ≡ true = o.itself b w.0 in
+      let self_b : over b b ≡ true = o.itself b w.0 in
       tally_less (λ a. over a p) (λ a. over a b) n b (λ a la. pass a) w.0
       (⊎_elim
       (λ (h : over b p ≡ true). absurd (w.2 (o.apart b p h (pass p (o.itself p w.1)))))
       (λ f. f)
       (cases_Bool (over b p)))
-      self-b
+      self_b
 
   rank_pos : (b : ℕ) → b < n → 0 < rank b
   unfolding rank
@@ -178,9 +178,9 @@ module _ (n : ℕ) (up : ℕ → Option ℕ) (bare : (b : ℕ) → up b ≡ None
   pub grows_bare : n ≤ 64 → Grows n up
   grows_bare few = (subst (Order n) (sym (bare_is few)) (alone_order n), subst (TreeLaw n up) (sym (bare_is few)) bare_law)
 
-pub is_none : (u : Option ℕ) → is_some u ≡ false → u ≡ None
-is_none None h = refl
-is_none (Some p) h = absurd (both_ways true h refl)
+pub none_from_is_some : (u : Option ℕ) → is_some u ≡ false → u ≡ None
+none_from_is_some None h = refl
+none_from_is_some (Some p) h = absurd (both_ways true h refl)
 
 -- one direct senior more
 module _ (ds : List (Option ℕ)) (s j : ℕ) where

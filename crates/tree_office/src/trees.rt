@@ -1,5 +1,5 @@
 ghost use Rattle.std.specs.Prelude.{◌≡◌, ℕ, None};
-ghost use Rattle.tree_office.specs.Climb.{TreeLaw, senior_of};
+ghost use Rattle.tree_office.specs.Climb.{TreeLaw};
 ghost use Rattle.tree_office.specs.Seniors.{senior_in, climbed, free_answer, with_senior};
 ghost use Rattle.tree_office.specs.Climbing.{grows_from};
 

@@ -30,10 +30,10 @@ returns c =
     let b = c.args.self.now in
     let role = c.args.role in
     let marks = fun_ext (marked_more c) in
-    let with-marks : (ℕ → ℕ → Bool) → (ℕ → Bool) → OfficeModel = λ over f. record { roles = b.table.roles; over = over; shared = f; sets = base_sets b } in
+    let with_marks : (ℕ → ℕ → Bool) → (ℕ → Bool) → OfficeModel = λ over f. record { roles = b.table.roles; over = over; shared = f; sets = base_sets b } in
     record {
       answer = cond_below role b.table.roles (Ok tt) (Err NoSuchRole) c.if-role-self.false;
-      after = λ over. ap (with-marks over) marks;
-      history = λ over. keeps_to _ _ _ _ _ (ap (with-marks over) marks) (keeps_share (office_with b over) role (Ok tt));
+      after = λ over. ap (with_marks over) marks;
+      history = λ over. keeps_to _ _ _ _ _ (ap (with_marks over) marks) (keeps_share (office_with b over) role (Ok tt));
       kept = refl;
     }

@@ -1,7 +1,9 @@
+-- In an office in columns, a role is over another exactly if it is that role or stands below it in one column.
 use Rattle.std.specs.Prelude.{◌≡◌, ℕ, ◌%◌, ◌<◌, ◌≤◌, true, ◌==◌, nat_le, nat_lt}
 use Rattle.std.proofs.lemmas.Bool.{and_parts, and_from, ltb-true, lt-ltb, eqb-true, eq-eqb, leb-true, le-leb}
 use Rattle.cases.specs.Columns.{columns_model}
 
+-- what it tells that a is over b
 pub told : (n a b : ℕ) → (columns_model n).over a b ≡ true → (a < n) × (b < n) × (a % 8 ≡ b % 8) × (b ≤ a)
 told n a b h =
     let p = and_parts (nat_lt a n) _ h in
@@ -9,6 +11,7 @@ told n a b h =
     let r = and_parts (a % 8 == b % 8) (nat_le b a) q.1 in
     (ltb-true a n p.0, ltb-true b n q.0, eqb-true (a % 8) (b % 8) r.0, leb-true b a r.1)
 
+-- what tells that a is over b
 pub tell : (n a b : ℕ) → a < n → b < n → a % 8 ≡ b % 8 → b ≤ a → (columns_model n).over a b ≡ true
 tell n a b la lb e l =
     and_from (nat_lt a n) _ (lt-ltb a n la) (and_from (nat_lt b n) _ (lt-ltb b n lb) (and_from (a % 8 == b % 8) (nat_le b a) (eq-eqb (a % 8) (b % 8) e) (le-leb b a l)))
