@@ -1,4 +1,4 @@
--- In an office in columns, a role is over another exactly if it is that role or stands below it in one column.
+-- In an office in columns, a role is over itself and those before it in its column, and over no other.
 use Rattle.std.specs.Prelude.{◌≡◌, ℕ, ◌%◌, ◌<◌, ◌≤◌, true, ◌==◌, nat_le, nat_lt}
 use Rattle.std.proofs.lemmas.Bool.{and_parts, and_from, ltb-true, lt-ltb, eqb-true, eq-eqb, leb-true, le-leb}
 use Rattle.cases.specs.Columns.{columns_model}
