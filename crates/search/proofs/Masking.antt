@@ -1,20 +1,17 @@
 -- The shortest chains use only steps from nodes that are nearer than the target.
 use Rattle.std.proofs.Common.{◌≡◌, ℕ, ◌+◌, ◌<◌, ◌≤◌, Bool, true, ◌&&◌, ltb, List, length, get_or, arith}
-use Rattle.std.proofs.lemmas.Bool.{lt-ltb, and_from, and_parts}
-use Rattle.search.specs.Chains.{Chain, alone, onward}
+use Rattle.std.proofs.lemmas.Bool.{lt-ltb, and_from}
+use Rattle.search.specs.Chains.{Chain, alone, onward, Best}
 use Rattle.search.specs.Asked.{Steps, Marked}
 use Rattle.search.specs.Arrivals.{Shortest}
 use Rattle.search.specs.Layers.{Layered, masked, marked}
-use Rattle.search.specs.Walks.{Traced}
+use Rattle.search.specs.Inside.{unmask}
 use Rattle.search.proofs.Reaching.{chain_some}
-
-pub unmask : (s : ℕ → ℕ → Bool) (k : ℕ) (f : List ℕ) (a b : ℕ) → masked f k s a b ≡ true → s a b ≡ true
-unmask s k f a b h = (and_parts (ltb a (length f) && ltb (get_or f a 0) k) (s a b) h).1
 
 module _ (n : ℕ) (s : ℕ → ℕ → Bool) (inside : (a b : ℕ) → s a b ≡ true → (a < n) × (b < n)) (marks : List Bool) (t k : ℕ) (f : List ℕ) (room : n ≤ length f) (p : Layered n s (marked marks) k f) where
   chain_unmask : {a b : ℕ} {xs : List ℕ} → Chain (Steps (masked f k s)) a b xs → Chain (Steps s) a b xs
   chain_unmask alone = alone
-  chain_unmask (onward {a = a} {b = b} e c) = onward (unmask s k f a b e) (chain_unmask c)
+  chain_unmask (onward {a = a} {b = b} e c) = onward (unmask f k s a b e) (chain_unmask c)
 
   chain_mask : {a b : ℕ} {xs : List ℕ} → Chain (Steps s) a b xs → (j : ℕ) → get_or f a 0 ≤ j → length xs + j ≤ k + 1 → Chain (Steps (masked f k s)) a b xs
   chain_mask alone j h l = alone
@@ -38,19 +35,11 @@ module _ (n : ℕ) (s : ℕ → ℕ → Bool) (inside : (a b : ℕ) → s a b �
       least = λ a ys m c. sh.least a ys m (chain_unmask c);
     }
 
-    pub traced_unmask : (old new : List ℕ) → Traced (Steps (masked f k s)) (Marked n marks) t (k + 1) old new → Traced (Steps s) (Marked n marks) t (k + 1) old new
-    traced_unmask old new w =
-        let b = w.best in
-        let len = w.long in
-        record {
-          chain = w.chain;
-          best = record {
-            from = b.from;
-            starts = b.starts;
-            leads = chain_unmask b.leads;
-            shortest = λ a ys m c. omega (arith, sh.least a ys m c);
-            first = λ a ys m c same. b.first a ys m (mask_short a ys m c (omega arith)) same;
-          };
-          long = w.long;
-          strip = w.strip;
-        }
+    pub best_unmask : (xs : List ℕ) → length xs ≡ k + 1 → Best (Steps (masked f k s)) (Marked n marks) t xs → Best (Steps s) (Marked n marks) t xs
+    best_unmask xs len b = record {
+      from = b.from;
+      starts = b.starts;
+      leads = chain_unmask b.leads;
+      shortest = λ a ys m c. omega (arith, sh.least a ys m c);
+      first = λ a ys m c same. b.first a ys m (mask_short a ys m c (omega arith)) same;
+    }

@@ -1,5 +1,6 @@
 -- What the layers say of chains.
 use Rattle.std.proofs.Common.{◌≡◌, ℕ, zero, suc, ◌+◌, ◌<◌, ◌≤◌, Bool, true, false, eqb, ltb, ◌⊎◌, List, [], ◌∷◌, ◌++◌, length, get_or, sym, refl, ap, ◌∙◌, inl, inr, ⊎_elim, add-one, arith}
+use Rattle.std.proofs.Math.Nat.{add-sub_cancel}
 use Rattle.std.proofs.lemmas.List.{length_push}
 use Rattle.std.proofs.lemmas.Bool.{cond-true, cond-false, cases_eq, cases_lt, cases_Bool, ltb-true, lt-ltb, le-ltb, eqb-false}
 use Rattle.search.specs.Chains.{Chain, alone, onward}
@@ -67,7 +68,7 @@ module _ (n : ℕ) (s : ℕ → ℕ → Bool) (marks : List Bool) (inside : (a b
         least = λ a ys m c. ⊎_elim (λ l. let h = near_end m c (omega arith) in absurd (omega arith)) (λ l. l) (cases_lt (length ys) (k + 1));
       }
 
-      pub arrives : k ≤ looked → get_or d t 0 ≡ k → Arrives n s marks t d k looked
+      pub arrives : k ≤ looked → get_or d t 0 ≡ k → Arrives n s marks t d (k + 1) looked
       arrives few at =
           let sh = shortest at in
           let o = sh.one in
@@ -81,9 +82,10 @@ module _ (n : ℕ) (s : ℕ → ℕ → Bool) (marks : List Bool) (inside : (a b
               )),
               seen,
             );
-            short = few;
+            some = omega arith;
+            short = omega arith;
             fits = omega (arith, seen, tally_lt (λ v. ltb (get_or d v 0) k) n t lt (le-ltb (get_or d t 0) k (omega arith)));
-            labels = p;
+            labels = rw (add-sub_cancel k 1) p;
           }
 
       pub stops : at_layer k d n ≡ 0 → get_or d t 0 ≡ 65535 → Stops n s marks t looked

@@ -1,7 +1,9 @@
 -- The best chain, the counts and the outcome are the only ones.
-use Rattle.std.proofs.Common.{◌≡◌, ℕ, ◌≤◌, List, [], ◌∷◌, ◌++◌, length, drop, sym, refl, ap, ◌∙◌, ⊎_elim, arith}
-use Rattle.search.specs.declared.Outcome.TheVariants.{Found, NoChain, Unfit}
+use Rattle.std.proofs.Common.{◌≡◌, ℕ, ◌≤◌, Bool, List, [], ◌∷◌, ◌++◌, length, drop, sym, refl, ap, ◌∙◌, ⊎_elim, arith, Ok, Err, Some, None, Option, Result}
+use Rattle.search.specs.declared.Outcome.{Outcome}
+use Rattle.search.specs.declared.Unfit.{Unfit}
 use Rattle.search.specs.Chains.{Best, Before, Number, Nearer, Reached}
+use Rattle.search.specs.Outcomes.{Fitting, Searched}
 use Rattle.search.specs.Asked.{Steps, Marked}
 use Rattle.search.proofs.Tallies.{tally_mono}
 use Rattle.search.specs.Laws.{OneBest, OneNearer, OneReached, NearerFew, OneOutcome}
@@ -50,21 +52,32 @@ nearer_few n leads starts t a b x y =
 pub best_reached : (S : ℕ → ℕ → Type 0) (Start : ℕ → Type 0) (t : ℕ) (xs : List ℕ) → Best S Start t xs → Reached S Start t
 best_reached S Start t xs b = (b.from, b.starts, (xs, b.leads))
 
-pub one_outcome : OneOutcome
-one_outcome n leads starts t near home old new new' (Found len looked) (Found len' looked') p q =
+abbrev made : Option ℕ → ℕ → Outcome
+made len looked = record { len = len; looked = looked }
+
+abbrev told : Result Outcome Unfit → Result Outcome Unfit
+told r = r
+
+fitted : (n : ℕ) (leads : ℕ → ℕ → Bool) (starts : List Bool) (t near home : ℕ) (old new : List ℕ) (len : Option ℕ) (looked : ℕ) → Searched n leads starts t near home old new (Ok (made len looked)) → Fitting n t (length starts) near home (length old)
+fitted n leads starts t near home old new None looked p = p.fitting
+fitted n leads starts t near home old new (Some len) looked p = p.fitting
+
+one_found : (n : ℕ) (leads : ℕ → ℕ → Bool) (starts : List Bool) (t near home : ℕ) (old new new' : List ℕ) (len len' : Option ℕ) (looked looked' : ℕ) → Searched n leads starts t near home old new (Ok (made len looked)) → Searched n leads starts t near home old new' (Ok (made len' looked')) → (told (Ok (made len looked)) ≡ told (Ok (made len' looked'))) × (new ≡ new')
+one_found n leads starts t near home old new new' (Some len) (Some len') looked looked' p q =
     let c = one_best n leads starts t p.chain q.chain p.best q.best in
     let l : len ≡ len' = sym p.long ∙ ap length c ∙ q.long in
     let k : looked ≡ looked' = one_nearer n leads starts t looked looked' p.count q.count in
     (cc, p.strip ∙ ap (λ x. x ++ drop len old) c ∙ ap (λ x. q.chain ++ drop x old) l ∙ sym q.strip)
-one_outcome n leads starts t near home old new new' (Found len looked) (NoChain looked') p q =
+one_found n leads starts t near home old new new' (Some len) None looked looked' p q =
     absurd (q.none (best_reached (Steps leads) (Marked n starts) t p.chain p.best))
-one_outcome n leads starts t near home old new new' (Found len looked) Unfit p q = absurd (q.0 p.fitting)
-one_outcome n leads starts t near home old new new' (NoChain looked) (Found len' looked') p q =
+one_found n leads starts t near home old new new' None (Some len') looked looked' p q =
     absurd (p.none (best_reached (Steps leads) (Marked n starts) t q.chain q.best))
-one_outcome n leads starts t near home old new new' (NoChain looked) (NoChain looked') p q =
+one_found n leads starts t near home old new new' None None looked looked' p q =
     let k : looked ≡ looked' = one_reached n leads starts looked looked' p.count q.count in
     (cc, p.strip ∙ sym q.strip)
-one_outcome n leads starts t near home old new new' (NoChain looked) Unfit p q = absurd (q.0 p.fitting)
-one_outcome n leads starts t near home old new new' Unfit (Found len' looked') p q = absurd (p.0 q.fitting)
-one_outcome n leads starts t near home old new new' Unfit (NoChain looked') p q = absurd (p.0 q.fitting)
-one_outcome n leads starts t near home old new new' Unfit Unfit p q = (refl, p.1 ∙ sym q.1)
+
+pub one_outcome : OneOutcome
+one_outcome n leads starts t near home old new new' (Ok o) (Ok o') p q = one_found n leads starts t near home old new new' o.len o'.len o.looked o'.looked p q
+one_outcome n leads starts t near home old new new' (Ok o) (Err e) p q = absurd (q.0 (fitted n leads starts t near home old new o.len o.looked p))
+one_outcome n leads starts t near home old new new' (Err e) (Ok o) p q = absurd (p.0 (fitted n leads starts t near home old new' o.len o.looked q))
+one_outcome n leads starts t near home old new new' (Err e) (Err e') p q = (refl, p.1 ∙ sym q.1)

@@ -1,12 +1,11 @@
 -- What the distances to the target say of chains, and that the walk is the best chain.
-use Rattle.std.proofs.Common.{◌≡◌, ℕ, zero, suc, ◌+◌, ◌-◌, ◌<◌, ◌≤◌, Bool, true, ◌≢◌, List, [], ◌∷◌, ◌++◌, length, get_or, take, drop, set, sym, refl, ap, ◌∙◌, subst, inl, inr, ⊎_elim, add-one, arith, length-set, get_or-set_other, get_or-set_same}
-use Rattle.std.proofs.lemmas.List.{length-take-le, get_or-take, length-drop, get_or-drop, ext_get_or, take-append-drop}
+use Rattle.std.proofs.Common.{◌≡◌, ℕ, zero, suc, ◌+◌, ◌-◌, ◌<◌, ◌≤◌, Bool, true, ◌≢◌, List, [], ◌∷◌, length, get_or, set, sym, refl, ap, ◌∙◌, subst, inl, inr, ⊎_elim, add-one, arith, get_or-set_other, get_or-set_same}
 use Rattle.std.proofs.lemmas.Bool.{cases_eq, cases_lt, eq-eqb, eqb-true}
 use Rattle.search.specs.Chains.{Chain, alone, onward, Best, Before}
 use Rattle.search.specs.Asked.{Steps, Marked}
 use Rattle.search.specs.Arrivals.{Shortest}
 use Rattle.search.specs.Layers.{Layered, turned, only, marked}
-use Rattle.search.specs.Walks.{Least, Starting, Following, SomeBelow, Descends, Walked, Traced}
+use Rattle.search.specs.Walks.{Least, Starting, Following, SomeBelow, Descends, Walked}
 use Rattle.search.proofs.Reaching.{chain_some}
 
 module _ (n : ℕ) (s : ℕ → ℕ → Bool) (inside : (a b : ℕ) → s a b ≡ true → (a < n) × (b < n)) (t k : ℕ) (d : List ℕ) (lk : k < 65534) (lt : t < n) (p : Layered n (turned s) (only t) k d) where
@@ -116,59 +115,36 @@ module _ (n : ℕ) (s : ℕ → ℕ → Bool) (inside : (a b : ℕ) → s a b �
           first = λ a ys m c same. greedy_before k z zs g c refl (omega arith) (begin.least a m.0 (m.1, start_at a ys m c (omega arith)));
         }
 
-    pub walked_traced : (old xs : List ℕ) → k < length old → Walked n s (marked marks) k d k old xs → Traced (Steps s) (Marked n marks) t (k + 1) old xs
-    walked_traced old xs l w =
-        let long = w.long in
-        let at : (j : ℕ) → j < k + 1 → get_or (take (k + 1) xs) j 0 ≡ get_or xs j 0 = λ j lj. get_or-take (k + 1) xs j 0 lj in
-        let len : length (take (k + 1) xs) ≡ k + 1 = length-take-le (k + 1) xs (omega arith) in
-        let rest : drop (k + 1) xs ≡ drop (k + 1) old = ext_get_or 0 (drop (k + 1) xs) (drop (k + 1) old)
-        (length-drop (k + 1) xs ∙ ap (λ x. x - (k + 1)) w.long ∙ sym (length-drop (k + 1) old))
-        (λ i li. get_or-drop (k + 1) xs i 0 ∙ w.rest (k + 1 + i) (omega arith) ∙ sym (get_or-drop (k + 1) old i 0)) in
-        record {
-          chain = take (k + 1) xs;
-          best = greedy_best (take (k + 1) xs) len
-              (let e = at 0 (omega arith) in rw e w.begin)
-              (λ j lj. let e = at j (omega arith) in let f = at (j + 1) (omega arith) in rw (e, f) (w.on j lj));
-          long = len;
-          strip = sym (take-append-drop (k + 1) xs) ∙ ap (λ x. take (k + 1) xs ++ x) rest;
-        }
+    pub walked_best : (xs : List ℕ) → length xs ≡ k + 1 → Walked n s (marked marks) k d (k + 1) xs → Best (Steps s) (Marked n marks) t xs
+    walked_best xs len w = greedy_best xs len (w.begin (omega arith)) (λ j lj. w.on j (omega arith))
 
-module _ (n : ℕ) (s : ℕ → ℕ → Bool) (st : ℕ → Bool) (k : ℕ) (d old : List ℕ) where
-  pub walked_none : k < length old → Least n (Starting st d k) (get_or old 0 0) → Walked n s st k d 0 old old
-  walked_none l h = record {
-    long = refl;
-    rest = λ j lj. refl;
-    begin = h;
+module _ (n : ℕ) (s : ℕ → ℕ → Bool) (st : ℕ → Bool) (k : ℕ) (d : List ℕ) where
+  pub walked_none : (xs : List ℕ) → Walked n s st k d 0 xs
+  walked_none xs = record { begin = λ l. absurd (omega arith); on = λ j lj. absurd (omega arith) }
+
+  -- a write past what is written
+  walked_kept : (i r : ℕ) (xs : List ℕ) → (j : ℕ) → j < i → get_or (set xs i r) j 0 ≡ get_or xs j 0
+  walked_kept i r xs j lj = let ne : j ≢ i = omega arith in get_or-set_other xs i j r 0 ne
+
+  pub walked_begun : (r : ℕ) (xs : List ℕ) → 0 < length xs → Least n (Starting st d k) r → Walked n s st k d 1 (set xs 0 r)
+  walked_begun r xs l h = record {
+    begin = λ _. let e = get_or-set_same xs 0 r 0 l in rw e h;
     on = λ j lj. absurd (omega arith);
   }
 
-  pub walked_more : (i r : ℕ) (xs : List ℕ) → i < k → k < length old → Walked n s st k d i old xs → Least n (Following s (get_or xs i 0) d (k - (i + 1))) r → Walked n s st k d (i + 1) old (set xs (i + 1) r)
-  walked_more i r xs li l w h =
-      let kept : (j : ℕ) → j < i + 1 → get_or (set xs (i + 1) r) j 0 ≡ get_or xs j 0 = λ j lj. let ne : j ≢ i + 1 = omega arith in get_or-set_other xs (i + 1) j r 0 ne in
-      let long = w.long in
-      record {
-        long = length-set xs (i + 1) r ∙ w.long;
-        rest = λ j lj. let ne : j ≢ i + 1 = omega arith in get_or-set_other xs (i + 1) j r 0 ne ∙ w.rest j (omega arith);
-        begin = let e = kept 0 (omega arith) in rw e w.begin;
-        on = λ j lj. ⊎_elim
-            (λ lj2. let e = kept j (omega arith) in let f = kept (j + 1) (omega arith) in rw (e, f) (w.on j lj2))
-            (λ ge. let q : j ≡ i = omega arith in let e = kept i (omega arith) in let f = get_or-set_same xs (i + 1) r 0 (omega arith) in rw (q, e, f) h)
-            (cases_lt j i);
-      }
+  pub walked_more : (i r : ℕ) (xs : List ℕ) → i + 1 < length xs → Walked n s st k d (i + 1) xs → Least n (Following s (get_or xs i 0) d (k - (i + 1))) r → Walked n s st k d (i + 1 + 1) (set xs (i + 1) r)
+  walked_more i r xs l w h = record {
+    begin = λ _. let e = walked_kept (i + 1) r xs 0 (omega arith) in rw e (w.begin (omega arith));
+    on = λ j lj. ⊎_elim
+        (λ lj2. let e = walked_kept (i + 1) r xs j (omega arith) in let f = walked_kept (i + 1) r xs (j + 1) (omega arith) in rw (e, f) (w.on j (omega arith)))
+        (λ ge. let q : j ≡ i = omega arith in let e = walked_kept (i + 1) r xs i (omega arith) in let f = get_or-set_same xs (i + 1) r 0 l in rw (q, e, f) h)
+        (cases_lt j i);
+  }
 
--- the strip before its first place was written
-pub walked_old : (n : ℕ) (s : ℕ → ℕ → Bool) (st : ℕ → Bool) (k i : ℕ) (d old xs : List ℕ) (r : ℕ) → Walked n s st k d i (set old 0 r) xs → Walked n s st k d i old xs
-walked_old n s st k i d old xs r w = record {
-  long = w.long ∙ length-set old 0 r;
-  rest = λ j lj. let ne : j ≢ 0 = omega arith in w.rest j lj ∙ get_or-set_other old 0 j r 0 ne;
-  begin = w.begin;
-  on = w.on;
-}
-
--- the last place written
-pub walked_at : (n : ℕ) (s : ℕ → ℕ → Bool) (st : ℕ → Bool) (k : ℕ) (d old xs : List ℕ) (i : ℕ) → i ≤ k → Walked n s st k d i old xs → (get_or xs i 0 < n) × (get_or d (get_or xs i 0) 0 ≡ k - i)
-walked_at n s st k d old xs zero l w = (w.begin.within, w.begin.holds.1 ∙ omega arith)
-walked_at n s st k d old xs (suc i) l w =
-    let o = w.on i (omega arith) in
-    let e : i + 1 ≡ suc i = omega arith in
-    (rw e at o.within, rw e at o.holds.1)
+  -- the last place written
+  pub walked_at : (xs : List ℕ) (i : ℕ) → i ≤ k → Walked n s st k d (i + 1) xs → (get_or xs i 0 < n) × (get_or d (get_or xs i 0) 0 ≡ k - i)
+  walked_at xs zero l w = let b = w.begin (omega arith) in (b.within, b.holds.1 ∙ omega arith)
+  walked_at xs (suc i) l w =
+      let o = w.on i (omega arith) in
+      let e : i + 1 ≡ suc i = omega arith in
+      (rw e at o.within, rw e at o.holds.1)

@@ -1,6 +1,7 @@
 -- What makes each outcome the only one.
-use Rattle.std.specs.Prelude.{◌≡◌, ℕ, ◌≤◌, Bool, List}
+use Rattle.std.specs.Prelude.{◌≡◌, ℕ, ◌≤◌, Bool, List, Result}
 use Rattle.search.specs.declared.Outcome.{Outcome}
+use Rattle.search.specs.declared.Unfit.{Unfit}
 use Rattle.search.specs.Chains.{Best, Number, Nearer, Reached}
 use Rattle.search.specs.Asked.{Steps, Marked}
 use Rattle.search.specs.Outcomes.{Searched}
@@ -22,4 +23,4 @@ NearerFew = (n : ℕ) (leads : ℕ → ℕ → Bool) (starts : List Bool) (t a b
 
 -- the same question has one outcome, and leaves one strip
 abbrev pub OneOutcome : Type 0
-OneOutcome = (n : ℕ) (leads : ℕ → ℕ → Bool) (starts : List Bool) (t near home : ℕ) (old new new' : List ℕ) (o o' : Outcome) → Searched n leads starts t near home old new o → Searched n leads starts t near home old new' o' → (o ≡ o') × (new ≡ new')
+OneOutcome = (n : ℕ) (leads : ℕ → ℕ → Bool) (starts : List Bool) (t near home : ℕ) (old new new' : List ℕ) (o o' : Result Outcome Unfit) → Searched n leads starts t near home old new o → Searched n leads starts t near home old new' o' → (o ≡ o') × (new ≡ new')

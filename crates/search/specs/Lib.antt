@@ -5,3 +5,4 @@ pub mod Laws
 pub mod Layers
 pub mod Arrivals
 pub mod Walks
+pub mod Inside

@@ -1,7 +1,7 @@
 -- What the outcome of a search says, for every input.
-use Rattle.std.specs.Prelude.{◌≡◌, ℕ, ◌+◌, ◌<◌, ◌≤◌, Bool, List, ◌++◌, length, drop}
+use Rattle.std.specs.Prelude.{◌≡◌, ℕ, ◌+◌, ◌<◌, ◌≤◌, Bool, List, ◌++◌, length, drop, Result, Ok, Err, MatchOption}
 use Rattle.search.specs.declared.Outcome.{Outcome}
-use Rattle.search.specs.declared.Outcome.TheVariants.{Found, NoChain, Unfit}
+use Rattle.search.specs.declared.Unfit.{Unfit}
 use Rattle.search.specs.Chains.{Best, Nearer, Reached, Number}
 use Rattle.search.specs.Asked.{Steps, Marked}
 
@@ -34,7 +34,7 @@ pub record Misses (n : ℕ) (leads : ℕ → ℕ → Bool) (starts : List Bool) 
   pub fits : looked ≤ n
 
 -- what a search says of a graph with n nodes: near and home places to work in, the strip old before and new after
-abbrev pub Searched : (n : ℕ) (leads : ℕ → ℕ → Bool) (starts : List Bool) (t near home : ℕ) (old new : List ℕ) → Outcome → Type 0
-Searched n leads starts t near home old new (Found len looked) = Finds n leads starts t near home old new len looked
-Searched n leads starts t near home old new (NoChain looked) = Misses n leads starts t near home old new looked
-Searched n leads starts t near home old new Unfit = (Fitting n t (length starts) near home (length old) → ⊥) × (new ≡ old)
+abbrev pub Searched : (n : ℕ) (leads : ℕ → ℕ → Bool) (starts : List Bool) (t near home : ℕ) (old new : List ℕ) → Result Outcome Unfit → Type 0
+Searched n leads starts t near home old new (Ok o) =
+    MatchOption o.len (Misses n leads starts t near home old new o.looked) (λ len. Finds n leads starts t near home old new len o.looked)
+Searched n leads starts t near home old new (Err unfit) = (Fitting n t (length starts) near home (length old) → ⊥) × (new ≡ old)

@@ -1,6 +1,5 @@
 -- The walk to the target: at each place the smallest node that is one step nearer.
-use Rattle.std.specs.Prelude.{◌≡◌, ℕ, ◌+◌, ◌-◌, ◌<◌, ◌≤◌, Bool, true, List, ◌++◌, length, drop, slice_index}
-use Rattle.search.specs.Chains.{Best}
+use Rattle.std.specs.Prelude.{◌≡◌, ℕ, ◌+◌, ◌-◌, ◌<◌, ◌≤◌, Bool, true, List, slice_index}
 
 -- r is the smallest number below n that has P
 pub record Least (n : ℕ) (P : ℕ → Type 0) (r : ℕ) : Type 0 where
@@ -28,16 +27,7 @@ NoneBelow i P = (v : ℕ) → v < i → P v → ⊥
 abbrev pub Descends : ℕ → (ℕ → ℕ → Bool) → List ℕ → Type 0
 Descends n s d = (v j : ℕ) → v < n → slice_index d v ≡ j + 1 → j < 65534 → SomeBelow n (Following s v d j)
 
--- the places 0 to i of xs hold the walk, and the others what they held in old
-pub record Walked (n : ℕ) (s : ℕ → ℕ → Bool) (st : ℕ → Bool) (k : ℕ) (d : List ℕ) (i : ℕ) (old xs : List ℕ) : Type 0 where
-  pub long : length xs ≡ length old
-  pub rest : (j : ℕ) → i < j → slice_index xs j ≡ slice_index old j
-  pub begin : Least n (Starting st d k) (slice_index xs 0)
-  pub on : (j : ℕ) → j < i → Least n (Following s (slice_index xs j) d (k - (j + 1))) (slice_index xs (j + 1))
-
--- the strip, old before and new after, begins with the best chain, of len nodes
-pub record Traced (S : ℕ → ℕ → Type 0) (Start : ℕ → Type 0) (t len : ℕ) (old new : List ℕ) : Type 0 where
-  pub chain : List ℕ
-  pub best : Best S Start t chain
-  pub long : length chain ≡ len
-  pub strip : new ≡ chain ++ drop len old
+-- the first i places of xs hold the walk
+pub record Walked (n : ℕ) (s : ℕ → ℕ → Bool) (st : ℕ → Bool) (k : ℕ) (d : List ℕ) (i : ℕ) (xs : List ℕ) : Type 0 where
+  pub begin : 0 < i → Least n (Starting st d k) (slice_index xs 0)
+  pub on : (j : ℕ) → j + 1 < i → Least n (Following s (slice_index xs j) d (k - (j + 1))) (slice_index xs (j + 1))

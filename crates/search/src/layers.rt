@@ -3,42 +3,37 @@ ghost use Rattle.std.specs.Prelude.{◌≡◌, ℕ, ◌+◌, ◌<◌, ◌≤◌,
 ghost use Rattle.search.specs.Layers.{Spread, Layered, Grown, at_layer, marked, only, turned, Begun};
 ghost use Rattle.search.specs.Arrivals.{Arriving};
 
+use crate::Outcome;
 use crate::graph::Graph;
-use crate::steps::{AllSteps, StepTest, TurnedSteps};
+use crate::steps::TurnedSteps;
 
 // no distance yet
 const NONE: u16 = 65535;
 
-// Whether and when the target has a distance, and how many nodes' steps were looked at.
-#[derive(Clone, Copy)]
-pub enum Arrival {
-    After { steps: u16, looked: usize },
-    Never { looked: usize },
-}
-
 // Gives each node without a distance to which a step leads from u the distance k + 1.
-fn expand<S: StepTest>(test: &S, n: usize, u: usize, k: u16, d: &mut [u16])
-    requires { (k < 65534) × (n ≤ length d.old) }
-    ensures { Spread (S.leads test.now) u k n d.old d.new }
+fn expand<G: Graph>(graph: &G, u: usize, k: u16, d: &mut [u16])
+    requires { k < 65534 }
+    ensures { Spread (G.leads graph.now) u k (length d.old) d.old d.new }
 {
-    for v in 0..n {
-        if d[v] == NONE && test.step(u, v) {
-            d[v] = k + 1;
+    for (v, label) in d.iter_mut().enumerate() {
+        if *label == NONE && graph.step(u, v) {
+            *label = k + 1;
         }
     }
 }
 
 // Expands the nodes at distance k, and says how many there are.
-fn layer<S: StepTest>(test: &S, n: usize, k: u16, d: &mut [u16]) -> usize
-    requires { (k < 65534) × (n ≤ length d.old) }
-    ensures next { (st : ℕ → Bool) → Layered n (S.leads test.now) st k d.old → Layered n (S.leads test.now) st (k + 1) d.new }
+fn layer<G: Graph>(graph: &G, k: u16, d: &mut [u16]) -> usize
+    requires { k < 65534 }
+    ensures next { (st : ℕ → Bool) → Layered (length d.old) (G.leads graph.now) st k d.old → Layered (length d.old) (G.leads graph.now) st (k + 1) d.new }
     ensures grown { Grown k d.old d.new }
-    ensures many { result ≡ at_layer k d.old n }
+    ensures many { result ≡ at_layer k d.old (length d.old) }
 {
     let mut count = 0;
-    for u in 0..n {
+    // By index, since the expansion of a node writes to the others.
+    for u in 0..d.len() {
         if d[u] == k {
-            expand(test, n, u, k, d);
+            expand(graph, u, k, d);
             count += 1;
         }
     }
@@ -46,60 +41,47 @@ fn layer<S: StepTest>(test: &S, n: usize, k: u16, d: &mut [u16]) -> usize
 }
 
 // The distances to begin with: 0 at the starts.
-fn seed_starts(starts: &[bool], n: usize, d: &mut [u16])
-    requires { (n ≤ length starts.now) × (n ≤ length d.old) }
-    ensures { Begun (marked starts.now) n d.new }
+fn seed(starts: &[bool], d: &mut [u16])
+    requires { length d.old ≤ length starts.now }
+    ensures { Begun (marked starts.now) (length d.old) d.new }
 {
-    for v in 0..n {
-        d[v] = if starts[v] { 0 } else { NONE };
-    }
-}
-
-// The distances to begin with: 0 at the target.
-fn seed_target(target: usize, n: usize, d: &mut [u16])
-    requires { n ≤ length d.old }
-    ensures { Begun (only target) n d.new }
-{
-    for v in 0..n {
-        d[v] = if v == target { 0 } else { NONE };
+    for (v, label) in d.iter_mut().enumerate() {
+        *label = if starts[v] { 0 } else { NONE };
     }
 }
 
 // Goes from the starts, layer by layer, until the target has a distance or a layer is empty.
-pub fn reach<G: Graph>(
-    graph: &G,
-    n: usize,
-    starts: &[bool],
-    target: usize,
-    near: &mut [u16],
-) -> Arrival
-    requires all { (n ≡ G.size graph.now) × (target < n) }
-    requires room { (n ≤ length starts.now) × (n ≤ length near.old) }
+pub fn reach<G: Graph>(graph: &G, starts: &[bool], target: usize, near: &mut [u16]) -> Outcome
+    requires all { target < G.size graph.now }
+    requires room { (G.size graph.now ≤ length starts.now) × (length near.old ≡ G.size graph.now) }
     ensures { Arriving (G.size graph.now) (G.leads graph.now) starts.now target near.new result }
 {
-    seed_starts(starts, n, near);
-    let ahead = AllSteps { graph };
+    seed(starts, near);
     let mut k: u16 = 0;
     let mut looked: usize = 0;
     while near[target] == NONE {
-        let count = layer(&ahead, n, k, near);
+        let count = layer(graph, k, near);
         if count == 0 {
-            return Arrival::Never { looked };
+            return Outcome { len: None, looked };
         }
         looked += count;
         k += 1;
     }
-    Arrival::After { steps: k, looked }
+    Outcome {
+        len: Some(k as usize + 1),
+        looked,
+    }
 }
 
 // Distances to the target, up to `steps`.
-pub fn homing<S: StepTest>(test: &S, n: usize, target: usize, steps: u16, home: &mut [u16])
-    requires { (steps < 65534) × (n ≤ length home.old) }
-    ensures { Layered n (turned (S.leads test.now)) (only target) steps home.new }
+pub fn homing<G: Graph>(graph: &G, target: usize, steps: u16, home: &mut [u16])
+    requires { (steps < 65534) × (target < length home.old) }
+    ensures { Layered (length home.old) (turned (G.leads graph.now)) (only target) steps home.new }
 {
-    seed_target(target, n, home);
-    let back = TurnedSteps { steps: test };
+    home.fill(NONE);
+    home[target] = 0;
+    let back = TurnedSteps { graph };
     for k in 0..steps {
-        layer(&back, n, k, home);
+        layer(&back, k, home);
     }
 }

@@ -3,6 +3,9 @@
 
 ghost use Rattle.search.specs.Laws.{OneBest, OneNearer, OneReached, NearerFew, OneOutcome};
 
+use std::error::Error;
+use std::fmt;
+
 mod best;
 mod graph;
 mod layers;
@@ -11,22 +14,31 @@ mod steps;
 pub use best::best_chain;
 pub use graph::Graph;
 
-// What a search comes to: the best chain has `len` nodes, or no chain leads to the target; and
-// how many nodes' steps were looked at. Unfit: the target is no node, or a slice is too short.
+// What a search finds: how many nodes the best chain has, where one leads to the target; and how
+// many nodes' steps were looked at.
 #[derive(Clone, Copy, PartialEq, Eq, Debug)]
-pub enum Outcome {
-    Found { len: usize, looked: usize },
-    NoChain { looked: usize },
-    Unfit,
+pub struct Outcome {
+    pub len: Option<usize>,
+    pub looked: usize,
 }
 
+// The target is no node, or a slice is too short.
+#[derive(Clone, Copy, PartialEq, Eq, Debug)]
+pub struct Unfit;
+
+impl fmt::Display for Unfit {
+    fn fmt<W: fmt::Write>(&self, f: &mut fmt::Formatter<W>) -> fmt::Result {
+        write!(f, "the target is no node, or a slice is too short")
+    }
+}
+
+impl Error for Unfit {}
+
 // The laws that make each outcome the only one.
-pub fn outcome_is_single() -> u8
+pub fn outcome_is_single()
     ensures best { OneBest }
     ensures nearer { OneNearer }
     ensures reached { OneReached }
     ensures few { NearerFew }
     ensures outcome { OneOutcome }
-{
-    0
-}
+{}

@@ -1,31 +1,8 @@
-// The steps that a part of a search looks at: all of a graph, only those from nearer nodes, or
-// turned round. They go by a trait of their own, since a trait with laws serves no struct that borrows.
-ghost use Rattle.std.specs.Prelude.{◌≡◌, ℕ, Bool};
+// The steps that a part of a search looks at: those from nearer nodes alone, or each turned round.
 ghost use Rattle.search.specs.Layers.{masked, turned};
+ghost use Rattle.search.specs.Inside.{masked_inside, turned_inside};
 
 use crate::graph::Graph;
-
-pub trait StepTest {
-    // whether a step leads from the first node to the second
-    ghost leads: { Self → ℕ → ℕ → Bool };
-
-    fn step(&self, from: usize, to: usize) -> bool
-        ensures { result ≡ leads self.now from to };
-}
-
-// The steps of a graph.
-#[derive(Drop)]
-pub struct AllSteps<'a, G> {
-    pub graph: &'a G,
-}
-
-impl<G: Graph> StepTest for AllSteps<'_, G> {
-    ghost leads = { λ x a b. G.Graph.leads x.graph.now a b };
-
-    fn step(&self, from: usize, to: usize) -> bool {
-        self.graph.step(from, to)
-    }
-}
 
 // The steps from nodes at a distance below `limit`. No other node is asked for its steps.
 #[derive(Drop)]
@@ -35,8 +12,18 @@ pub struct NearerSteps<'a, 'b, G> {
     pub limit: u16,
 }
 
-impl<G: Graph> StepTest for NearerSteps<'_, '_, G> {
-    ghost leads = { λ x a b. masked x.near.now x.limit (G.Graph.leads x.graph.now) a b };
+impl<G: Graph> Graph for NearerSteps<'_, '_, G> {
+    ghost size = { λ x. G.Graph.size x.graph.now };
+
+    ghost leads = { λ x. masked x.near.now x.limit (G.Graph.leads x.graph.now) };
+
+    ghost few = { λ x. G.Graph.few x.graph.now };
+
+    ghost inside = { λ x. masked_inside x.near.now x.limit (G.Graph.size x.graph.now) (G.Graph.leads x.graph.now) (G.Graph.inside x.graph.now) };
+
+    fn nodes(&self) -> usize {
+        self.graph.nodes()
+    }
 
     fn step(&self, from: usize, to: usize) -> bool {
         from < self.near.len() && self.near[from] < self.limit && self.graph.step(from, to)
@@ -45,14 +32,24 @@ impl<G: Graph> StepTest for NearerSteps<'_, '_, G> {
 
 // Each step turned round.
 #[derive(Drop)]
-pub struct TurnedSteps<'a, S> {
-    pub steps: &'a S,
+pub struct TurnedSteps<'a, G> {
+    pub graph: &'a G,
 }
 
-impl<S: StepTest> StepTest for TurnedSteps<'_, S> {
-    ghost leads = { λ x a b. turned (S.StepTest.leads x.steps.now) a b };
+impl<G: Graph> Graph for TurnedSteps<'_, G> {
+    ghost size = { λ x. G.Graph.size x.graph.now };
+
+    ghost leads = { λ x. turned (G.Graph.leads x.graph.now) };
+
+    ghost few = { λ x. G.Graph.few x.graph.now };
+
+    ghost inside = { λ x. turned_inside (G.Graph.size x.graph.now) (G.Graph.leads x.graph.now) (G.Graph.inside x.graph.now) };
+
+    fn nodes(&self) -> usize {
+        self.graph.nodes()
+    }
 
     fn step(&self, from: usize, to: usize) -> bool {
-        self.steps.step(to, from)
+        self.graph.step(to, from)
     }
 }

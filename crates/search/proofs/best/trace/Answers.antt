@@ -1,64 +1,63 @@
-use Rattle.std.proofs.Common.{◌≡◌, ℕ, ◌+◌, ◌<◌, ◌≤◌, true, length, sym, subst, arith}
+use Rattle.std.proofs.Common.{◌≡◌, ◌+◌, ◌-◌, length, subst, arith}
 use Rattle.search.specs.Asked.{Steps, Marked}
 use Rattle.search.specs.Arrivals.{Shortest}
-use Rattle.search.specs.Layers.{Layered, marked, masked}
-use Rattle.search.specs.Walks.{Traced}
-use Rattle.search.proofs.Walking.{starting, descends, walked_traced}
-use Rattle.search.proofs.Masking.{shortest_mask, traced_unmask, unmask}
+use Rattle.search.specs.Layers.{Layered, marked, masked, turned, only}
+use Rattle.search.specs.Inside.{masked_inside}
+use Rattle.search.specs.Walks.{Walked, SomeBelow, Starting, Descends}
+use Rattle.search.proofs.Walking.{starting, descends, walked_best}
+use Rattle.search.proofs.Masking.{shortest_mask, best_unmask}
 use Rattle.search.proofs.best.trace.Goals as goal
 
-pub walk-requires : goal.walk-requires
-walk-requires g c =
-    let n = c.nodes-n.result in
+pub walk-requires-clause-start : goal.walk-requires-clause-start
+walk-requires-clause-start g c =
+    let n = g.G.Graph.size c.args.graph.now in
     let s = g.G.Graph.leads c.args.graph.now in
     let marks = c.args.starts.now in
     let t = c.args.target in
-    let k = c.args.steps in
+    let k = length c.args.strip.now - 1 in
     let f = c.args.near.now in
     let d = c.homing.new.home in
-    let e = c.nodes-n.ensures in
     let few = g.met.G.Graph.few c.args.graph.now in
-    let inside : (a b : ℕ) → s a b ≡ true → (a < n) × (b < n) = λ a b h. let i = g.met.G.Graph.inside c.args.graph.now a b h in (omega (arith, i.0), omega (arith, i.1)) in
-    let kept : (a b : ℕ) → masked f k s a b ≡ true → (a < n) × (b < n) = λ a b h. inside a b (unmask s k f a b h) in
-    let P : ℕ → Type 0 = λ x. Shortest (Steps s) (Marked x marks) t (k + 1) in
-    let Q : ℕ → Type 0 = λ x. Layered x s (marked marks) k f in
-    let sh : P n = subst P (sym e) c.requires.short in
-    let p : Q n = subst Q (sym e) c.requires.labels in
-    let all = c.requires.all in
-    let room = c.requires.room in
-    let many = c.requires.marks in
-    let lk : k < 65534 = omega arith in
-    let lt : t < n = omega arith in
-    record {
-      all = (omega arith, lk);
-      room = (omega arith, (omega arith, omega arith));
-      start = starting n (masked f k s) kept t k d lk lt c.homing.ensures marks (shortest_mask n s inside marks t k f (omega arith) p sh);
-      down = descends n (masked f k s) kept t k d lk lt c.homing.ensures;
-    }
+    let inside = g.met.G.Graph.inside c.args.graph.now in
+    let e : length c.args.home.now ≡ n = omega arith in
+    let e' : n ≡ length d = omega arith in
+    let l : length c.args.strip.now ≡ k + 1 = omega arith in
+    let sh : Shortest (Steps s) (Marked n marks) t (k + 1) = subst (λ x. Shortest (Steps s) (Marked n marks) t x) l c.requires.short in
+    let h : Layered n (turned (masked f k s)) (only t) k d = subst (λ x. Layered x (turned (masked f k s)) (only t) k d) e c.homing.ensures in
+    subst (λ x. SomeBelow x (Starting (marked marks) d k)) e' (starting n (masked f k s) (masked_inside f k n s inside) t k d (omega arith) c.requires.all.0 h marks (shortest_mask n s inside marks t k f (omega arith) c.requires.labels sh))
+
+pub walk-requires-clause-down : goal.walk-requires-clause-down
+walk-requires-clause-down g c =
+    let n = g.G.Graph.size c.args.graph.now in
+    let s = g.G.Graph.leads c.args.graph.now in
+    let t = c.args.target in
+    let k = length c.args.strip.now - 1 in
+    let f = c.args.near.now in
+    let d = c.homing.new.home in
+    let few = g.met.G.Graph.few c.args.graph.now in
+    let inside = g.met.G.Graph.inside c.args.graph.now in
+    let e : length c.args.home.now ≡ n = omega arith in
+    let e' : n ≡ length d = omega arith in
+    let h : Layered n (turned (masked f k s)) (only t) k d = subst (λ x. Layered x (turned (masked f k s)) (only t) k d) e c.homing.ensures in
+    subst (λ x. Descends x (masked f k s) d) e' (descends n (masked f k s) (masked_inside f k n s inside) t k d (omega arith) c.requires.all.0 h)
 
 pub returns : goal.returns
 returns g c =
-    let n = c.nodes-n.result in
+    let n = g.G.Graph.size c.args.graph.now in
     let s = g.G.Graph.leads c.args.graph.now in
     let marks = c.args.starts.now in
     let t = c.args.target in
-    let k = c.args.steps in
+    let k = length c.args.strip.now - 1 in
     let f = c.args.near.now in
     let d = c.homing.new.home in
-    let old = c.args.strip.now in
-    let new = c.walk.new.strip in
-    let e = c.nodes-n.ensures in
+    let xs = c.walk.new.strip in
     let few = g.met.G.Graph.few c.args.graph.now in
-    let inside : (a b : ℕ) → s a b ≡ true → (a < n) × (b < n) = λ a b h. let i = g.met.G.Graph.inside c.args.graph.now a b h in (omega (arith, i.0), omega (arith, i.1)) in
-    let kept : (a b : ℕ) → masked f k s a b ≡ true → (a < n) × (b < n) = λ a b h. inside a b (unmask s k f a b h) in
-    let P : ℕ → Type 0 = λ x. Shortest (Steps s) (Marked x marks) t (k + 1) in
-    let Q : ℕ → Type 0 = λ x. Layered x s (marked marks) k f in
-    let R : ℕ → Type 0 = λ x. Traced (Steps s) (Marked x marks) t (k + 1) old new in
-    let sh : P n = subst P (sym e) c.requires.short in
-    let p : Q n = subst Q (sym e) c.requires.labels in
-    let all = c.requires.all in
-    let room = c.requires.room in
-    let many = c.requires.marks in
-    let nf : n ≤ length f = omega arith in
-    subst R e (traced_unmask n s inside marks t k f nf p sh old new
-    (walked_traced n (masked f k s) kept t k d (omega arith) (omega arith) c.homing.ensures marks (shortest_mask n s inside marks t k f nf p sh) old new (omega arith) c.walk.ensures))
+    let inside = g.met.G.Graph.inside c.args.graph.now in
+    let e : length c.args.home.now ≡ n = omega arith in
+    let e' : length d ≡ n = omega arith in
+    let l : length c.args.strip.now ≡ k + 1 = omega arith in
+    let sh : Shortest (Steps s) (Marked n marks) t (k + 1) = subst (λ x. Shortest (Steps s) (Marked n marks) t x) l c.requires.short in
+    let h : Layered n (turned (masked f k s)) (only t) k d = subst (λ x. Layered x (turned (masked f k s)) (only t) k d) e c.homing.ensures in
+    let w' : Walked n (masked f k s) (marked marks) k d (length c.args.strip.now) xs = subst (λ x. Walked x (masked f k s) (marked marks) k d (length c.args.strip.now) xs) e' c.walk.ensures in
+    let w : Walked n (masked f k s) (marked marks) k d (k + 1) xs = subst (λ x. Walked n (masked f k s) (marked marks) k d x xs) l w' in
+    best_unmask n s inside marks t k f (omega arith) c.requires.labels sh xs (omega arith) (walked_best n (masked f k s) (masked_inside f k n s inside) t k d (omega arith) c.requires.all.0 h marks (shortest_mask n s inside marks t k f (omega arith) c.requires.labels sh) xs (omega arith) w)
