@@ -1,32 +1,31 @@
 -- The shortest chains use only steps from nodes that are nearer than the target.
-use Rattle.std.proofs.Common.{◌≡◌, ℕ, ◌+◌, ◌<◌, ◌≤◌, Bool, true, ◌&&◌, ltb, List, length, get_or, arith}
-use Rattle.std.proofs.lemmas.Bool.{lt-ltb, and_from}
+use Rattle.std.proofs.Common.{◌≡◌, ℕ, ◌+◌, ◌<◌, ◌≤◌, Bool, true, List, Option, Some, length, arith}
+use Rattle.std.proofs.lemmas.Bool.{and_from}
 use Rattle.search.specs.Chains.{Chain, alone, onward, Best}
 use Rattle.search.specs.Asked.{Steps, Marked}
 use Rattle.search.specs.Arrivals.{Shortest}
-use Rattle.search.specs.Layers.{Layered, masked, marked}
+use Rattle.search.specs.Layers.{Layered, masked, marked, distance, is_below}
 use Rattle.search.specs.Inside.{unmask}
+use Rattle.search.proofs.Distances.{below_some}
 use Rattle.search.proofs.Reaching.{chain_some}
 
-module _ (n : ℕ) (s : ℕ → ℕ → Bool) (inside : (a b : ℕ) → s a b ≡ true → (a < n) × (b < n)) (marks : List Bool) (t k : ℕ) (f : List ℕ) (room : n ≤ length f) (p : Layered n s (marked marks) k f) where
+module _ (n : ℕ) (s : ℕ → ℕ → Bool) (inside : (a b : ℕ) → s a b ≡ true → (a < n) × (b < n)) (marks : List Bool) (t k : ℕ) (f : List (Option ℕ)) (p : Layered n s (marked marks) k f) where
   chain_unmask : {a b : ℕ} {xs : List ℕ} → Chain (Steps (masked f k s)) a b xs → Chain (Steps s) a b xs
   chain_unmask alone = alone
   chain_unmask (onward {a = a} {b = b} e c) = onward (unmask f k s a b e) (chain_unmask c)
 
-  chain_mask : {a b : ℕ} {xs : List ℕ} → Chain (Steps s) a b xs → (j : ℕ) → get_or f a 0 ≤ j → length xs + j ≤ k + 1 → Chain (Steps (masked f k s)) a b xs
-  chain_mask alone j h l = alone
-  chain_mask (onward {a = a} {b = b} e c) j h l =
+  chain_mask : {a b : ℕ} {xs : List ℕ} → Chain (Steps s) a b xs → (i : ℕ) → distance f a ≡ Some i → length xs + i ≤ k + 1 → Chain (Steps (masked f k s)) a b xs
+  chain_mask alone i h l = alone
+  chain_mask (onward {a = a} {b = b} e c) i h l =
       let some = chain_some c in
-      let i = inside a b e in
-      let g = p.ahead a b i.0 i.1 e (omega arith) in
+      let w = inside a b e in
+      let g = p.ahead a b i w.0 w.1 e h (omega arith) in
       onward
-      (and_from (ltb a (length f) && ltb (get_or f a 0) k) (s a b)
-      (and_from (ltb a (length f)) (ltb (get_or f a 0) k) (lt-ltb a (length f) (omega arith)) (lt-ltb (get_or f a 0) k (omega arith)))
-      e)
-      (chain_mask c (j + 1) (omega arith) (omega arith))
+      (and_from (is_below k (distance f a)) (s a b) (below_some k i (distance f a) h (omega arith)) e)
+      (chain_mask c g.0 g.1 (omega (arith, g.2)))
 
   mask_short : (a : ℕ) (xs : List ℕ) → Marked n marks a → Chain (Steps s) a t xs → length xs ≡ k + 1 → Chain (Steps (masked f k s)) a t xs
-  mask_short a xs m c len = let z = p.origin a m.0 m.1 in chain_mask c 0 (omega arith) (omega arith)
+  mask_short a xs m c len = chain_mask c 0 (p.origin a m.0 m.1) (omega arith)
 
   module _ (sh : Shortest (Steps s) (Marked n marks) t (k + 1)) where
     pub shortest_mask : Shortest (Steps (masked f k s)) (Marked n marks) t (k + 1)

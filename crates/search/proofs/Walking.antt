@@ -1,46 +1,44 @@
 -- What the distances to the target say of chains, and that the walk is the best chain.
-use Rattle.std.proofs.Common.{◌≡◌, ℕ, zero, suc, ◌+◌, ◌-◌, ◌<◌, ◌≤◌, Bool, true, ◌≢◌, List, [], ◌∷◌, length, get_or, set, sym, refl, ap, ◌∙◌, subst, inl, inr, ⊎_elim, add-one, arith, get_or-set_other, get_or-set_same}
+use Rattle.std.proofs.Common.{◌≡◌, ℕ, zero, suc, ◌+◌, ◌-◌, ◌<◌, ◌≤◌, Bool, true, ◌≢◌, List, Option, Some, [], ◌∷◌, length, get_or, set, sym, refl, ap, ◌∙◌, subst, inl, inr, ⊎_elim, add-one, arith, get_or-set_other, get_or-set_same}
 use Rattle.std.proofs.lemmas.Bool.{cases_eq, cases_lt, eq-eqb, eqb-true}
 use Rattle.search.specs.Chains.{Chain, alone, onward, Best, Before}
 use Rattle.search.specs.Asked.{Steps, Marked}
 use Rattle.search.specs.Arrivals.{Shortest}
-use Rattle.search.specs.Layers.{Layered, turned, only, marked}
+use Rattle.search.specs.Layers.{Layered, turned, only, marked, distance}
 use Rattle.search.specs.Walks.{Least, Starting, Following, SomeBelow, Descends, Walked}
+use Rattle.search.proofs.Distances.{one_distance}
 use Rattle.search.proofs.Reaching.{chain_some}
 
-module _ (n : ℕ) (s : ℕ → ℕ → Bool) (inside : (a b : ℕ) → s a b ≡ true → (a < n) × (b < n)) (t k : ℕ) (d : List ℕ) (lk : k < 65534) (lt : t < n) (p : Layered n (turned s) (only t) k d) where
+module _ (n : ℕ) (s : ℕ → ℕ → Bool) (inside : (a b : ℕ) → s a b ≡ true → (a < n) × (b < n)) (t k : ℕ) (d : List (Option ℕ)) (lt : t < n) (p : Layered n (turned s) (only t) k d) where
   pub descends : Descends n s d
-  descends v j lv e lj = let b = p.back v j lv e lj in (b.0, b.1, (b.3, b.2))
+  descends v j lv e = let b = p.back v j lv e in (b.0, b.1, (b.3, b.2))
 
   -- a node with a distance has a chain to t
-  home : (j v : ℕ) → v < n → j < 65535 → get_or d v 0 ≡ j → (xs : List ℕ) × Chain (Steps s) v t xs × (length xs ≡ j + 1)
-  home zero v lv lj e =
+  home : (j v : ℕ) → v < n → distance d v ≡ Some j → (xs : List ℕ) × Chain (Steps s) v t xs × (length xs ≡ j + 1)
+  home zero v lv e =
       let h : t ≡ v = sym (eqb-true v t (p.starts v lv e)) in
       let P : ℕ → Type 0 = λ x. Chain (Steps s) x t (x ∷ []) in
       (v ∷ [], subst P h alone, refl)
-  home (suc j) v lv lj e =
-      let b = p.back v j lv (rw add-one e) (omega arith) in
-      let r = home j b.0 b.1 (omega arith) b.2 in
+  home (suc j) v lv e =
+      let b = p.back v j lv (rw add-one e) in
+      let r = home j b.0 b.1 b.2 in
       (v ∷ r.0, onward b.3 r.1, omega (arith, r.2))
 
   -- the start of a chain to t is no farther than the chain is long
-  toward : {a b : ℕ} {xs : List ℕ} → Chain (Steps s) a b xs → b ≡ t → length xs ≤ k + 1 → get_or d a 0 + 1 ≤ length xs
-  toward {a = a} alone e l =
-      let z = p.origin t lt (eq-eqb t t refl) in
-      let f = ap (λ x. get_or d x 0) e in
-      omega arith
+  toward : {a b : ℕ} {xs : List ℕ} → Chain (Steps s) a b xs → b ≡ t → length xs ≤ k + 1 → (m : ℕ) × (distance d a ≡ Some m) × (m + 1 ≤ length xs)
+  toward {a = a} alone e l = (0, ap (distance d) e ∙ p.origin t lt (eq-eqb t t refl), omega arith)
   toward (onward {a = a} {b = b} h c) e l =
       let i = inside a b h in
-      let ih = toward c e (omega arith) in
-      let f = p.ahead b a i.1 i.0 h (omega arith) in
-      omega arith
+      let r = toward c e (omega arith) in
+      let f = p.ahead b a r.0 i.1 i.0 h r.1 (omega (arith, r.2)) in
+      (f.0, f.1, omega (arith, f.2, r.2))
 
   -- what the greedy walk keeps: z is j steps away, and each of zs is the smallest that is one nearer
   record Greedy (j z : ℕ) (zs : List ℕ) : Type 0 where
     long : length zs ≡ j
     low : j ≤ k
     within : z < n
-    at : get_or d z 0 ≡ j
+    at : distance d z ≡ Some j
     on : (i : ℕ) → i < j → Least n (Following s (get_or (z ∷ zs) i 0) d (j - (i + 1))) (get_or (z ∷ zs) (i + 1) 0)
 
   greedy_next : (j z y : ℕ) (zs : List ℕ) → Greedy j z (y ∷ zs) → Greedy (j - 1) y zs
@@ -61,8 +59,7 @@ module _ (n : ℕ) (s : ℕ → ℕ → Bool) (inside : (a b : ℕ) → s a b �
   greedy_chain : (j z : ℕ) (zs : List ℕ) → Greedy j z zs → Chain (Steps s) z t (z ∷ zs)
   greedy_chain j z [] g =
       let len = g.long in
-      let at = g.at in
-      let h : t ≡ z = sym (eqb-true z t (p.starts z g.within (omega arith))) in
+      let h : t ≡ z = sym (eqb-true z t (p.starts z g.within (g.at ∙ ap Some (let e : j ≡ 0 = omega arith in e)))) in
       let P : ℕ → Type 0 = λ x. Chain (Steps s) x t (x ∷ []) in
       subst P h alone
   greedy_chain j z (y ∷ zs) g =
@@ -80,23 +77,23 @@ module _ (n : ℕ) (s : ℕ → ℕ → Bool) (inside : (a b : ℕ) → s a b �
       let r' : s z b ≡ true = rw q r in
       let i = inside z b r' in
       let low = g.low in
-      let at = g.at in
       let f = toward c e (omega arith) in
-      let f' = p.ahead b z i.1 i.0 r' (omega arith) in
-      let least = (g.on 0 (omega arith)).least b i.1 (r', omega arith) in
+      let f' = p.ahead b z f.0 i.1 i.0 r' f.1 (omega (arith, f.2)) in
+      let j' = one_distance f'.0 j f'.1 g.at in
+      let m : f.0 ≡ j - (0 + 1) = omega (arith, f.2, f'.2) in
+      let least = (g.on 0 (omega arith)).least b i.1 (r', f.1 ∙ ap Some m) in
       inr (q, greedy_before (j - 1) y zs (greedy_next j z y zs g) c e (omega arith) least))
       (λ q. inl (omega arith))
       (cases_eq z a)
 
   module _ (marks : List Bool) (sh : Shortest (Steps s) (Marked n marks) t (k + 1)) where
     -- a start with a chain of k steps is k steps away
-    start_at : (a : ℕ) (ys : List ℕ) → Marked n marks a → Chain (Steps s) a t ys → length ys ≡ k + 1 → get_or d a 0 ≡ k
+    start_at : (a : ℕ) (ys : List ℕ) → Marked n marks a → Chain (Steps s) a t ys → length ys ≡ k + 1 → distance d a ≡ Some k
     start_at a ys m c len =
-        let near = toward c refl (omega arith) in
-        ⊎_elim
-        (λ l. let r = home (get_or d a 0) a m.0 (omega arith) refl in absurd (omega (arith, r.2, sh.least a r.0 m r.1)))
-        (λ l. omega arith)
-        (cases_lt (get_or d a 0) k)
+        let r = toward c refl (omega arith) in
+        let h = home r.0 a m.0 r.1 in
+        let e : r.0 ≡ k = omega (arith, r.2, h.2, sh.least a h.0 m h.1) in
+        r.1 ∙ ap Some e
 
     pub starting : SomeBelow n (Starting (marked marks) d k)
     starting =
@@ -118,7 +115,7 @@ module _ (n : ℕ) (s : ℕ → ℕ → Bool) (inside : (a b : ℕ) → s a b �
     pub walked_best : (xs : List ℕ) → length xs ≡ k + 1 → Walked n s (marked marks) k d (k + 1) xs → Best (Steps s) (Marked n marks) t xs
     walked_best xs len w = greedy_best xs len (w.begin (omega arith)) (λ j lj. w.on j (omega arith))
 
-module _ (n : ℕ) (s : ℕ → ℕ → Bool) (st : ℕ → Bool) (k : ℕ) (d : List ℕ) where
+module _ (n : ℕ) (s : ℕ → ℕ → Bool) (st : ℕ → Bool) (k : ℕ) (d : List (Option ℕ)) where
   pub walked_none : (xs : List ℕ) → Walked n s st k d 0 xs
   walked_none xs = record { begin = λ l. absurd (omega arith); on = λ j lj. absurd (omega arith) }
 
@@ -142,8 +139,8 @@ module _ (n : ℕ) (s : ℕ → ℕ → Bool) (st : ℕ → Bool) (k : ℕ) (d :
   }
 
   -- the last place written
-  pub walked_at : (xs : List ℕ) (i : ℕ) → i ≤ k → Walked n s st k d (i + 1) xs → (get_or xs i 0 < n) × (get_or d (get_or xs i 0) 0 ≡ k - i)
-  walked_at xs zero l w = let b = w.begin (omega arith) in (b.within, b.holds.1 ∙ omega arith)
+  pub walked_at : (xs : List ℕ) (i : ℕ) → i ≤ k → Walked n s st k d (i + 1) xs → (get_or xs i 0 < n) × (distance d (get_or xs i 0) ≡ Some (k - i))
+  walked_at xs zero l w = let b = w.begin (omega arith) in (b.within, b.holds.1 ∙ ap Some (let e : k ≡ k - 0 = omega arith in e))
   walked_at xs (suc i) l w =
       let o = w.on i (omega arith) in
       let e : i + 1 ≡ suc i = omega arith in

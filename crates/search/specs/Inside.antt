@@ -1,12 +1,12 @@
 -- Lemmas for the laws of graphs made of a graph: each step is between its nodes.
-use Rattle.std.specs.Prelude.{◌≡◌, ℕ, ◌<◌, Bool, true, ◌&&◌, List, length, nat_lt, slice_index}
+use Rattle.std.specs.Prelude.{◌≡◌, ℕ, ◌<◌, Bool, true, List, Option}
 use Rattle.std.proofs.lemmas.Bool.{and_parts}
-use Rattle.search.specs.Layers.{masked, turned}
+use Rattle.search.specs.Layers.{masked, turned, distance, is_below}
 
-pub unmask : (f : List ℕ) (k : ℕ) (s : ℕ → ℕ → Bool) (a b : ℕ) → masked f k s a b ≡ true → s a b ≡ true
-unmask f k s a b h = (and_parts (nat_lt a (length f) && nat_lt (slice_index f a) k) (s a b) h).1
+pub unmask : (f : List (Option ℕ)) (k : ℕ) (s : ℕ → ℕ → Bool) (a b : ℕ) → masked f k s a b ≡ true → s a b ≡ true
+unmask f k s a b h = (and_parts (is_below k (distance f a)) (s a b) h).1
 
-pub masked_inside : (f : List ℕ) (k n : ℕ) (s : ℕ → ℕ → Bool) → ((a b : ℕ) → s a b ≡ true → (a < n) × (b < n)) → (a b : ℕ) → masked f k s a b ≡ true → (a < n) × (b < n)
+pub masked_inside : (f : List (Option ℕ)) (k n : ℕ) (s : ℕ → ℕ → Bool) → ((a b : ℕ) → s a b ≡ true → (a < n) × (b < n)) → (a b : ℕ) → masked f k s a b ≡ true → (a < n) × (b < n)
 masked_inside f k n s inside a b h = inside a b (unmask f k s a b h)
 
 pub turned_inside : (n : ℕ) (s : ℕ → ℕ → Bool) → ((a b : ℕ) → s a b ≡ true → (a < n) × (b < n)) → (a b : ℕ) → turned s a b ≡ true → (a < n) × (b < n)

@@ -1,5 +1,5 @@
 // The walk from the best start to the target, and the whole search.
-ghost use Rattle.std.specs.Prelude.{◌≡◌, ◌-◌, ◌<◌, ◌≤◌, length};
+ghost use Rattle.std.specs.Prelude.{◌≡◌, ◌+◌, ◌-◌, ◌<◌, ◌≤◌, length};
 ghost use Rattle.search.specs.Asked.{Steps, Marked};
 ghost use Rattle.search.specs.Arrivals.{Shortest};
 ghost use Rattle.search.specs.Chains.{Best};
@@ -13,7 +13,7 @@ use crate::steps::NearerSteps;
 use crate::{Outcome, Unfit};
 
 // The smallest start at distance k.
-fn first_start(starts: &[bool], home: &[u16], k: usize) -> usize
+fn first_start(starts: &[bool], home: &[Option<u16>], k: u16) -> usize
     requires room { length home.now ≤ length starts.now }
     requires some { SomeBelow (length home.now) (Starting (marked starts.now) home.now k) }
     ensures { Least (length home.now) (Starting (marked starts.now) home.now k) result }
@@ -21,7 +21,7 @@ fn first_start(starts: &[bool], home: &[u16], k: usize) -> usize
     let Some(v) = home
         .iter()
         .enumerate()
-        .position(|(v, label)| usize::from(*label) == k && starts[v])
+        .position(|(v, label)| *label == Some(k) && starts[v])
     else {
         unreachable()
     };
@@ -29,14 +29,14 @@ fn first_start(starts: &[bool], home: &[u16], k: usize) -> usize
 }
 
 // The smallest node at distance k to which a step leads from u.
-fn next_node<G: Graph>(graph: &G, u: usize, home: &[u16], k: usize) -> usize
+fn next_node<G: Graph>(graph: &G, u: usize, home: &[Option<u16>], k: u16) -> usize
     requires { SomeBelow (length home.now) (Following (G.leads graph.now) u home.now k) }
     ensures { Least (length home.now) (Following (G.leads graph.now) u home.now k) result }
 {
     let Some(v) = home
         .iter()
         .enumerate()
-        .position(|(v, label)| usize::from(*label) == k && graph.step(u, v))
+        .position(|(v, label)| *label == Some(k) && graph.step(u, v))
     else {
         unreachable()
     };
@@ -44,18 +44,17 @@ fn next_node<G: Graph>(graph: &G, u: usize, home: &[u16], k: usize) -> usize
 }
 
 // Writes the walk: the smallest start, and at each later place the smallest node that is one step nearer.
-fn walk<G: Graph>(graph: &G, starts: &[bool], home: &[u16], strip: &mut [u16])
+fn walk<G: Graph>(graph: &G, starts: &[bool], home: &[Option<u16>], steps: u16, strip: &mut [u16])
     requires room { (length home.now ≤ 1024) × (length home.now ≤ length starts.now) }
-    requires some { (0 < length strip.old) × (length strip.old ≤ 1024) }
-    requires start { SomeBelow (length home.now) (Starting (marked starts.now) home.now (length strip.old - 1)) }
+    requires fills { length strip.old ≡ steps + 1 }
+    requires start { SomeBelow (length home.now) (Starting (marked starts.now) home.now steps) }
     requires down { Descends (length home.now) (G.leads graph.now) home.now }
-    ensures { Walked (length home.now) (G.leads graph.now) (marked starts.now) (length strip.old - 1) home.now (length strip.old) strip.new }
+    ensures { Walked (length home.now) (G.leads graph.now) (marked starts.now) steps home.now (steps + 1) strip.new }
 {
-    let steps = strip.len() - 1;
     let mut node = first_start(starts, home, steps);
     for (i, place) in strip.iter_mut().enumerate() {
         if i > 0 {
-            node = next_node(graph, node, home, steps - i);
+            node = next_node(graph, node, home, steps - i as u16);
         }
         *place = node as u16;
     }
@@ -67,8 +66,8 @@ fn trace<G: Graph>(
     graph: &G,
     starts: &[bool],
     target: usize,
-    near: &[u16],
-    home: &mut [u16],
+    near: &[Option<u16>],
+    home: &mut [Option<u16>],
     strip: &mut [u16],
 )
     requires all { (target < G.size graph.now) × ((0 < length strip.old) × (length strip.old ≤ G.size graph.now)) }
@@ -77,10 +76,14 @@ fn trace<G: Graph>(
     requires labels { Layered (G.size graph.now) (G.leads graph.now) (marked starts.now) (length strip.old - 1) near.now }
     ensures { Best (Steps (G.leads graph.now)) (Marked (G.size graph.now) starts.now) target strip.new }
 {
-    let limit = (strip.len() - 1) as u16;
-    let nearer = NearerSteps { graph, near, limit };
-    homing(&nearer, target, limit, home);
-    walk(&nearer, starts, home, strip);
+    let steps = (strip.len() - 1) as u16;
+    let nearer = NearerSteps {
+        graph,
+        near,
+        limit: steps,
+    };
+    homing(&nearer, target, steps, home);
+    walk(&nearer, starts, home, steps, strip);
 }
 
 // Writes the best chain from the starts to the target into the first places of the strip. The
@@ -89,8 +92,8 @@ pub fn best_chain<G: Graph>(
     graph: &G,
     starts: &[bool],
     target: usize,
-    near: &mut [u16],
-    home: &mut [u16],
+    near: &mut [Option<u16>],
+    home: &mut [Option<u16>],
     strip: &mut [u16],
 ) -> Result<Outcome, Unfit>
     ensures { Searched (G.size graph.now) (G.leads graph.now) starts.now target (length near.old) (length home.old) strip.old strip.new result }
@@ -100,16 +103,10 @@ pub fn best_chain<G: Graph>(
         return Err(Unfit);
     }
     let near = &mut near[..n];
+    let home = &mut home[..n];
     let found = reach(graph, starts, target, near);
     if let Some(len) = found.len {
-        trace(
-            graph,
-            starts,
-            target,
-            near,
-            &mut home[..n],
-            &mut strip[..len],
-        );
+        trace(graph, starts, target, near, home, &mut strip[..len]);
     }
     Ok(found)
 }

@@ -8,7 +8,7 @@ use crate::graph::Graph;
 #[derive(Drop)]
 pub struct NearerSteps<'a, 'b, G> {
     pub graph: &'a G,
-    pub near: &'b [u16],
+    pub near: &'b [Option<u16>],
     pub limit: u16,
 }
 
@@ -26,7 +26,7 @@ impl<G: Graph> Graph for NearerSteps<'_, '_, G> {
     }
 
     fn step(&self, from: usize, to: usize) -> bool {
-        from < self.near.len() && self.near[from] < self.limit && self.graph.step(from, to)
+        matches!(self.near.get(from), Some(Some(k)) if *k < self.limit) && self.graph.step(from, to)
     }
 }
 
