@@ -5,7 +5,7 @@ use Rattle.search.specs.Chains.{Chain, alone, onward, Best, Before}
 use Rattle.search.specs.Asked.{Steps, Marked}
 use Rattle.search.specs.Arrivals.{Shortest}
 use Rattle.search.specs.Layers.{Layered, turned, only, marked, distance}
-use Rattle.search.specs.Walks.{Least, Starting, Following, SomeBelow, Descends, Walked}
+use Rattle.search.specs.Walks.{Least, Passing, goes_on, SomeBelow, Descends, node_before, Walked}
 use Rattle.search.proofs.Distances.{one_distance}
 use Rattle.search.proofs.Reaching.{chain_some}
 
@@ -39,7 +39,7 @@ module _ (n : ℕ) (s : ℕ → ℕ → Bool) (inside : (a b : ℕ) → s a b �
     low : j ≤ k
     within : z < n
     at : distance d z ≡ Some j
-    on : (i : ℕ) → i < j → Least n (Following s (get_or (z ∷ zs) i 0) d (j - (i + 1))) (get_or (z ∷ zs) (i + 1) 0)
+    on : (i : ℕ) → i < j → Least n (Passing (s (get_or (z ∷ zs) i 0)) d (j - (i + 1))) (get_or (z ∷ zs) (i + 1) 0)
 
   greedy_next : (j z y : ℕ) (zs : List ℕ) → Greedy j z (y ∷ zs) → Greedy (j - 1) y zs
   greedy_next j z y zs g =
@@ -52,7 +52,7 @@ module _ (n : ℕ) (s : ℕ → ℕ → Bool) (inside : (a b : ℕ) → s a b �
         at = o.holds.1;
         on = λ i li.
             let e : j - (i + 1 + 1) ≡ j - 1 - (i + 1) = omega arith in
-            let P : ℕ → Type 0 = λ x. Least n (Following s (get_or (z ∷ y ∷ zs) x 0) d (j - 1 - (i + 1))) (get_or (z ∷ y ∷ zs) (suc (i + 1)) 0) in
+            let P : ℕ → Type 0 = λ x. Least n (Passing (s (get_or (z ∷ y ∷ zs) x 0)) d (j - 1 - (i + 1))) (get_or (z ∷ y ∷ zs) (suc (i + 1)) 0) in
             subst P (add-one i) (rw (e, add-one (i + 1)) at (g.on (i + 1) (omega arith)));
       }
 
@@ -95,12 +95,12 @@ module _ (n : ℕ) (s : ℕ → ℕ → Bool) (inside : (a b : ℕ) → s a b �
         let e : r.0 ≡ k = omega (arith, r.2, h.2, sh.least a h.0 m h.1) in
         r.1 ∙ ap Some e
 
-    pub starting : SomeBelow n (Starting (marked marks) d k)
+    pub starting : SomeBelow n (Passing (marked marks) d k)
     starting =
         let o = sh.one in
         (o.0, o.2.0, (o.2.1, start_at o.0 o.1 o.2 o.3 o.4))
 
-    greedy_best : (zs : List ℕ) → length zs ≡ k + 1 → Least n (Starting (marked marks) d k) (get_or zs 0 0) → ((j : ℕ) → j < k → Least n (Following s (get_or zs j 0) d (k - (j + 1))) (get_or zs (j + 1) 0)) → Best (Steps s) (Marked n marks) t zs
+    greedy_best : (zs : List ℕ) → length zs ≡ k + 1 → Least n (Passing (marked marks) d k) (get_or zs 0 0) → ((j : ℕ) → j < k → Least n (Passing (s (get_or zs j 0)) d (k - (j + 1))) (get_or zs (j + 1) 0)) → Best (Steps s) (Marked n marks) t zs
     greedy_best [] len begin on = absurd (omega arith)
     greedy_best (z ∷ zs) len begin on =
         let g : Greedy k z zs = record { long = omega arith; low = omega arith; within = begin.within; at = begin.holds.1; on = on } in
@@ -113,35 +113,34 @@ module _ (n : ℕ) (s : ℕ → ℕ → Bool) (inside : (a b : ℕ) → s a b �
         }
 
     pub walked_best : (xs : List ℕ) → length xs ≡ k + 1 → Walked n s (marked marks) k d (k + 1) xs → Best (Steps s) (Marked n marks) t xs
-    walked_best xs len w = greedy_best xs len (w.begin (omega arith)) (λ j lj. w.on j (omega arith))
+    walked_best xs len w =
+        let first : k - 0 ≡ k = omega arith in
+        let P : ℕ → Type 0 = λ x. Least n (Passing (marked marks) d x) (get_or xs 0 0) in
+        greedy_best xs len (subst P first (w 0 (omega arith))) (λ j lj.
+        let Q : ℕ → Type 0 = λ x. Least n (Passing (goes_on s (marked marks) (node_before xs x)) d (k - (j + 1))) (get_or xs (j + 1) 0) in
+        subst Q (add-one j) (w (j + 1) (omega arith)))
+
+-- a write does not change what stands before its place
+before_kept : (i r : ℕ) (xs : List ℕ) (j : ℕ) → j ≤ i → node_before (set xs i r) j ≡ node_before xs j
+before_kept i r xs zero l = refl
+before_kept i r xs (suc j) l = let ne : j ≢ i = omega arith in ap Some (get_or-set_other xs i j r 0 ne)
+
+pub before_more : (i r : ℕ) (xs : List ℕ) → i < length xs → Some r ≡ node_before (set xs i r) (i + 1)
+before_more i r xs l = rw add-one (ap Some (sym (get_or-set_same xs i r 0 l)))
 
 module _ (n : ℕ) (s : ℕ → ℕ → Bool) (st : ℕ → Bool) (k : ℕ) (d : List (Option ℕ)) where
-  pub walked_none : (xs : List ℕ) → Walked n s st k d 0 xs
-  walked_none xs = record { begin = λ l. absurd (omega arith); on = λ j lj. absurd (omega arith) }
+  pub walked_more : (i r : ℕ) (xs : List ℕ) → i < length xs → Walked n s st k d i xs → Least n (Passing (goes_on s st (node_before xs i)) d (k - i)) r → Walked n s st k d (i + 1) (set xs i r)
+  walked_more i r xs l w h j lj =
+      let e = before_kept i r xs j (omega arith) in
+      ⊎_elim
+      (λ lj2. let ne : j ≢ i = omega arith in let f = get_or-set_other xs i j r 0 ne in rw (e, f) (w j lj2))
+      (λ ge. let q : j ≡ i = omega arith in let e' = before_kept i r xs i (omega arith) in let f = get_or-set_same xs i r 0 l in rw (q, e', f) h)
+      (cases_lt j i)
 
-  -- a write past what is written
-  walked_kept : (i r : ℕ) (xs : List ℕ) → (j : ℕ) → j < i → get_or (set xs i r) j 0 ≡ get_or xs j 0
-  walked_kept i r xs j lj = let ne : j ≢ i = omega arith in get_or-set_other xs i j r 0 ne
-
-  pub walked_begun : (r : ℕ) (xs : List ℕ) → 0 < length xs → Least n (Starting st d k) r → Walked n s st k d 1 (set xs 0 r)
-  walked_begun r xs l h = record {
-    begin = λ _. let e = get_or-set_same xs 0 r 0 l in rw e h;
-    on = λ j lj. absurd (omega arith);
-  }
-
-  pub walked_more : (i r : ℕ) (xs : List ℕ) → i + 1 < length xs → Walked n s st k d (i + 1) xs → Least n (Following s (get_or xs i 0) d (k - (i + 1))) r → Walked n s st k d (i + 1 + 1) (set xs (i + 1) r)
-  walked_more i r xs l w h = record {
-    begin = λ _. let e = walked_kept (i + 1) r xs 0 (omega arith) in rw e (w.begin (omega arith));
-    on = λ j lj. ⊎_elim
-        (λ lj2. let e = walked_kept (i + 1) r xs j (omega arith) in let f = walked_kept (i + 1) r xs (j + 1) (omega arith) in rw (e, f) (w.on j (omega arith)))
-        (λ ge. let q : j ≡ i = omega arith in let e = walked_kept (i + 1) r xs i (omega arith) in let f = get_or-set_same xs (i + 1) r 0 l in rw (q, e, f) h)
-        (cases_lt j i);
-  }
-
-  -- the last place written
-  pub walked_at : (xs : List ℕ) (i : ℕ) → i ≤ k → Walked n s st k d (i + 1) xs → (get_or xs i 0 < n) × (distance d (get_or xs i 0) ≡ Some (k - i))
-  walked_at xs zero l w = let b = w.begin (omega arith) in (b.within, b.holds.1 ∙ ap Some (let e : k ≡ k - 0 = omega arith in e))
-  walked_at xs (suc i) l w =
-      let o = w.on i (omega arith) in
-      let e : i + 1 ≡ suc i = omega arith in
-      (rw e at o.within, rw e at o.holds.1)
+  -- there is a node to go on to
+  pub walked_next : SomeBelow n (Passing st d k) → Descends n s d → (i : ℕ) (xs : List ℕ) → i ≤ k → Walked n s st k d i xs → SomeBelow n (Passing (goes_on s st (node_before xs i)) d (k - i))
+  walked_next start down zero xs l w = let e : k ≡ k - 0 = omega arith in subst (λ x. SomeBelow n (Passing st d x)) e start
+  walked_next start down (suc i) xs l w =
+      let o = w i (omega arith) in
+      let e : k - i ≡ k - suc i + 1 = omega arith in
+      down (get_or xs i 0) (k - suc i) o.within (o.holds.1 ∙ ap Some e)

@@ -5,38 +5,32 @@ ghost use Rattle.search.specs.Arrivals.{Shortest};
 ghost use Rattle.search.specs.Chains.{Best};
 ghost use Rattle.search.specs.Layers.{Layered, marked};
 ghost use Rattle.search.specs.Outcomes.{Searched};
-ghost use Rattle.search.specs.Walks.{SomeBelow, Least, Starting, Following, Descends, Walked};
+ghost use Rattle.search.specs.Walks.{SomeBelow, Least, Passing, goes_on, Descends, Walked};
 
 use crate::graph::Graph;
 use crate::layers::{homing, reach};
 use crate::steps::NearerSteps;
 use crate::{Outcome, Unfit};
 
-// The smallest start at distance k.
-fn first_start(starts: &[bool], home: &[Option<u16>], k: u16) -> usize
+// The smallest node at distance k that is a start, or, after a node u, to which a step leads from u.
+fn next_node<G: Graph>(
+    graph: &G,
+    starts: &[bool],
+    before: Option<usize>,
+    home: &[Option<u16>],
+    k: u16,
+) -> usize
     requires room { length home.now ≤ length starts.now }
-    requires some { SomeBelow (length home.now) (Starting (marked starts.now) home.now k) }
-    ensures { Least (length home.now) (Starting (marked starts.now) home.now k) result }
+    requires some { SomeBelow (length home.now) (Passing (goes_on (G.leads graph.now) (marked starts.now) before) home.now k) }
+    ensures { Least (length home.now) (Passing (goes_on (G.leads graph.now) (marked starts.now) before) home.now k) result }
 {
-    let Some(v) = home
-        .iter()
-        .enumerate()
-        .position(|(v, label)| *label == Some(k) && starts[v])
-    else {
-        unreachable()
-    };
-    v
-}
-
-// The smallest node at distance k to which a step leads from u.
-fn next_node<G: Graph>(graph: &G, u: usize, home: &[Option<u16>], k: u16) -> usize
-    requires { SomeBelow (length home.now) (Following (G.leads graph.now) u home.now k) }
-    ensures { Least (length home.now) (Following (G.leads graph.now) u home.now k) result }
-{
-    let Some(v) = home
-        .iter()
-        .enumerate()
-        .position(|(v, label)| *label == Some(k) && graph.step(u, v))
+    let Some(v) = home.iter().enumerate().position(|(v, label)| {
+        *label == Some(k)
+            && match before {
+                None => starts[v],
+                Some(u) => graph.step(u, v),
+            }
+    })
     else {
         unreachable()
     };
@@ -47,16 +41,15 @@ fn next_node<G: Graph>(graph: &G, u: usize, home: &[Option<u16>], k: u16) -> usi
 fn walk<G: Graph>(graph: &G, starts: &[bool], home: &[Option<u16>], steps: u16, strip: &mut [u16])
     requires room { (length home.now ≤ 1024) × (length home.now ≤ length starts.now) }
     requires fills { length strip.old ≡ steps + 1 }
-    requires start { SomeBelow (length home.now) (Starting (marked starts.now) home.now steps) }
+    requires start { SomeBelow (length home.now) (Passing (marked starts.now) home.now steps) }
     requires down { Descends (length home.now) (G.leads graph.now) home.now }
     ensures { Walked (length home.now) (G.leads graph.now) (marked starts.now) steps home.now (steps + 1) strip.new }
 {
-    let mut node = first_start(starts, home, steps);
+    let mut before = None;
     for (i, place) in strip.iter_mut().enumerate() {
-        if i > 0 {
-            node = next_node(graph, node, home, steps - i as u16);
-        }
-        *place = node as u16;
+        let v = next_node(graph, starts, before, home, steps - i as u16);
+        *place = v as u16;
+        before = Some(v);
     }
 }
 

@@ -70,7 +70,7 @@ pub fn reach<G: Graph>(
         k += 1;
     }
     Outcome {
-        len: Some(usize::from(k) + 1),
+        len: Some(k as usize + 1),
         looked,
     }
 }

@@ -13,13 +13,13 @@ pub struct NearerSteps<'a, 'b, G> {
 }
 
 impl<G: Graph> Graph for NearerSteps<'_, '_, G> {
-    ghost size = { λ x. G.Graph.size x.graph.now };
+    ghost size = { λ x. G.size x.graph.now };
 
-    ghost leads = { λ x. masked x.near.now x.limit (G.Graph.leads x.graph.now) };
+    ghost leads = { λ x. masked x.near.now x.limit (G.leads x.graph.now) };
 
-    ghost few = { λ x. G.Graph.few x.graph.now };
+    ghost few = { λ x. G.few x.graph.now };
 
-    ghost inside = { λ x. masked_inside x.near.now x.limit (G.Graph.size x.graph.now) (G.Graph.leads x.graph.now) (G.Graph.inside x.graph.now) };
+    ghost inside = { λ x. masked_inside x.near.now x.limit (G.inside x.graph.now) };
 
     fn nodes(&self) -> usize {
         self.graph.nodes()
@@ -37,13 +37,13 @@ pub struct TurnedSteps<'a, G> {
 }
 
 impl<G: Graph> Graph for TurnedSteps<'_, G> {
-    ghost size = { λ x. G.Graph.size x.graph.now };
+    ghost size = { λ x. G.size x.graph.now };
 
-    ghost leads = { λ x. turned (G.Graph.leads x.graph.now) };
+    ghost leads = { λ x. turned (G.leads x.graph.now) };
 
-    ghost few = { λ x. G.Graph.few x.graph.now };
+    ghost few = { λ x. G.few x.graph.now };
 
-    ghost inside = { λ x. turned_inside (G.Graph.size x.graph.now) (G.Graph.leads x.graph.now) (G.Graph.inside x.graph.now) };
+    ghost inside = { λ x. turned_inside (G.inside x.graph.now) };
 
     fn nodes(&self) -> usize {
         self.graph.nodes()

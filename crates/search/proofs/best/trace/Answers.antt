@@ -3,7 +3,7 @@ use Rattle.search.specs.Asked.{Steps, Marked}
 use Rattle.search.specs.Arrivals.{Shortest}
 use Rattle.search.specs.Layers.{Layered, marked, masked, turned, only}
 use Rattle.search.specs.Inside.{masked_inside}
-use Rattle.search.specs.Walks.{Walked, SomeBelow, Starting, Descends}
+use Rattle.search.specs.Walks.{Walked, SomeBelow, Passing, Descends}
 use Rattle.search.proofs.Walking.{starting, descends, walked_best}
 use Rattle.search.proofs.Masking.{shortest_mask, best_unmask}
 use Rattle.search.proofs.best.trace.Goals as goal
@@ -24,7 +24,7 @@ walk-requires-clause-start g c =
     let l : length c.args.strip.now ≡ k + 1 = omega arith in
     let sh : Shortest (Steps s) (Marked n marks) t (k + 1) = subst (λ x. Shortest (Steps s) (Marked n marks) t x) l c.requires.short in
     let h : Layered n (turned (masked f k s)) (only t) k d = subst (λ x. Layered x (turned (masked f k s)) (only t) k d) e c.homing.ensures in
-    subst (λ x. SomeBelow x (Starting (marked marks) d k)) e' (starting n (masked f k s) (masked_inside f k n s inside) t k d c.requires.all.0 h marks (shortest_mask n s inside marks t k f c.requires.labels sh))
+    subst (λ x. SomeBelow x (Passing (marked marks) d k)) e' (starting n (masked f k s) (masked_inside f k inside) t k d c.requires.all.0 h marks (shortest_mask n s inside marks t k f c.requires.labels sh))
 
 pub walk-requires-clause-down : goal.walk-requires-clause-down
 walk-requires-clause-down g c =
@@ -39,7 +39,7 @@ walk-requires-clause-down g c =
     let e : length c.args.home.now ≡ n = omega arith in
     let e' : n ≡ length d = omega arith in
     let h : Layered n (turned (masked f k s)) (only t) k d = subst (λ x. Layered x (turned (masked f k s)) (only t) k d) e c.homing.ensures in
-    subst (λ x. Descends x (masked f k s) d) e' (descends n (masked f k s) (masked_inside f k n s inside) t k d c.requires.all.0 h)
+    subst (λ x. Descends x (masked f k s) d) e' (descends n (masked f k s) (masked_inside f k inside) t k d c.requires.all.0 h)
 
 pub returns : goal.returns
 returns g c =
@@ -59,4 +59,4 @@ returns g c =
     let sh : Shortest (Steps s) (Marked n marks) t (k + 1) = subst (λ x. Shortest (Steps s) (Marked n marks) t x) l c.requires.short in
     let h : Layered n (turned (masked f k s)) (only t) k d = subst (λ x. Layered x (turned (masked f k s)) (only t) k d) e c.homing.ensures in
     let w : Walked n (masked f k s) (marked marks) k d (k + 1) xs = subst (λ x. Walked x (masked f k s) (marked marks) k d (k + 1) xs) e' c.walk.ensures in
-    best_unmask n s inside marks t k f c.requires.labels sh xs (omega arith) (walked_best n (masked f k s) (masked_inside f k n s inside) t k d c.requires.all.0 h marks (shortest_mask n s inside marks t k f c.requires.labels sh) xs (omega arith) w)
+    best_unmask n s inside marks t k f c.requires.labels sh xs (omega arith) (walked_best n (masked f k s) (masked_inside f k inside) t k d c.requires.all.0 h marks (shortest_mask n s inside marks t k f c.requires.labels sh) xs (omega arith) w)

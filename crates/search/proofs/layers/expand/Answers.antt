@@ -1,7 +1,7 @@
 use Rattle.std.proofs.Common.{◌≡◌, ℕ, ◌+◌, List, Option, None, get_or, set, sym, subst, arith}
 use Rattle.std.proofs.lemmas.List.{set-get_or}
 use Rattle.std.proofs.lemmas.Bool.{both_ways}
-use Rattle.search.specs.Layers.{Spread, distance}
+use Rattle.search.specs.Layers.{Spread}
 use Rattle.search.proofs.Spreads.{spread_skip, spread_mark}
 use Rattle.search.proofs.Distances.{none_known, some_known}
 use Rattle.search.proofs.layers.expand.Goals as goal

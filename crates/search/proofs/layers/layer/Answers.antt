@@ -1,6 +1,6 @@
 use Rattle.std.proofs.Common.{◌≡◌, ℕ, ◌+◌, List, Option, length, sym, subst, arith, rules}
 use Rattle.search.specs.Layers.{Turning, Spread}
-use Rattle.search.proofs.Spreads.{turning_none, turning_more, turning_skip, partial_all}
+use Rattle.search.proofs.Spreads.{turning_more, turning_skip, partial_all}
 use Rattle.search.proofs.layers.layer.Goals as goal
 use Rattle.search.proofs.layers.layer.Goals.{then-eq, else-eq}
 

@@ -1,5 +1,4 @@
 use Rattle.std.proofs.Common.{◌≡◌, ℕ, ◌+◌, ◌≤◌, length, Some, sym, ◌∙◌, subst, ⊎_elim, arith}
-use Rattle.search.specs.Arrivals.{Arrives}
 use Rattle.search.specs.Layers.{marked, Layered, at_layer, distance}
 use Rattle.search.proofs.Distances.{none_known, some_known, none_or_some}
 use Rattle.search.proofs.Reaching.{going_none, going_more, going_room, arrives, stops}
@@ -51,5 +50,4 @@ returns g c =
     let s = g.G.Graph.leads c.args.graph.now in
     let i = c.loop-near.invariant in
     let at : distance c.loop-near.near c.args.target ≡ Some c.loop-near.k = let far = some_known (distance c.loop-near.near c.args.target) _ c.is_none.ensures c.loop-near-test.false in ⊎_elim (λ x. absurd (none_or_some far.0 x far.1)) (λ x. x) i.target in
-    subst (λ x. Arrives n s c.args.starts.now c.args.target c.loop-near.near (x + 1) c.loop-near.looked) (sym c.from.ensures)
-    (arrives n s c.args.starts.now (g.met.G.Graph.inside c.args.graph.now) c.loop-near.k c.loop-near.near i.layered c.args.target c.loop-near.looked c.requires.all i.seen i.few at)
+    arrives n s c.args.starts.now (g.met.G.Graph.inside c.args.graph.now) c.loop-near.k c.loop-near.near i.layered c.args.target c.loop-near.looked c.requires.all i.seen i.few at
