@@ -1,10 +1,13 @@
 -- What the search says of a list of pairs is its seniority.
-use Rattle.std.proofs.Common.{◌≡◌, ℕ, ◌<◌, ◌≤◌, Bool, true, false, ◌⊎◌, List, length, get_or, set, replicate, Ok, Err, sym, ap, ◌∙◌, subst, inr, ⊎_elim, arith, length-set}
+use Rattle.std.proofs.Common.{◌≡◌, ℕ, ◌<◌, ◌≤◌, Bool, true, false, ◌⊎◌, List, length, get_or, set, replicate, Ok, Err, Some, None, Option, Result, MatchOption, MatchResult, sym, ap, ◌∙◌, subst, inr, ⊎_elim, arith, length-set}
 use Rattle.std.proofs.lemmas.List.{get_or-set_same, get_or-set_other, get_or-replicate, get_or_past, length-replicate}
 use Rattle.std.proofs.lemmas.Bool.{cases_Bool, cases_eq, cases_lt, false≢true}
+use Rattle.std.specs.Option.{is_some}
 use Rattle.search.specs.Chains.{Reaches}
 use Rattle.search.specs.Asked.{Steps}
-use Rattle.search.specs.Outcomes.{Fitting, Finds, Misses}
+use Rattle.search.specs.Outcomes.{Fitting, Finds, Misses, Searched}
+use Rattle.search.specs.declared.Outcome.{Outcome}
+use Rattle.search.specs.declared.Unfit.{Unfit}
 use Rattle.offices.specs.Order.{Closes}
 use Rattle.offices.specs.Drafting.{Answer, over_after}
 use Rattle.offices.specs.Members.{row_holds}
@@ -77,6 +80,16 @@ over_unfit l s j near home strip ln lh ls unfit = ⊎_elim
     })))
     (λ lj. over_outside l s j (inr lj))
     (cases_lt j 64)
+
+-- what a search with such slices says, and whether it found a chain
+module _ (l : PairList) (s j near home : ℕ) (old new : List ℕ) (ls : s < 64) (ln : 64 ≤ near) (lh : 64 ≤ home) (lo : 64 ≤ length old) where
+  over_len : (len : Option ℕ) (looked : ℕ) → MatchOption len (Misses 64 (row_holds l.juniors) (one_start s) j near home old new looked) (λ n. Finds 64 (row_holds l.juniors) (one_start s) j near home old new n looked) → is_some len ≡ list_over l s j
+  over_len None looked told = sym (over_missed l s j near home looked old new ls told)
+  over_len (Some n) looked told = sym (over_found l s j near home n looked old new told)
+
+  pub over_told : (r : Result Outcome Unfit) (b : Bool) → Searched 64 (row_holds l.juniors) (one_start s) j near home old new r → MatchResult r (λ o. b ≡ is_some o.len) (λ _. b ≡ false) → b ≡ list_over l s j
+  over_told (Ok o) b told said = said ∙ over_len o.len o.looked told
+  over_told (Err e) b told said = said ∙ sym (over_unfit l s j near home (length old) ln lh lo told.0)
 
 -- the pairs after one was answered so, and their seniority
 pub over_kept : (r : Answer) (ps new : List Pair) (p : Pair) → new ≡ with_pair r ps p → closed_by 64 new ≡ over_after r (closed_by 64 ps) p.senior p.junior

@@ -9,7 +9,7 @@ use crate::pair::Pair;
 use answers::Refusal;
 use drafting::Seniority;
 use offices::RoleSet;
-use search::{Graph, Outcome, best_chain};
+use search::{Graph, best_chain};
 
 // A step leads from senior to junior by each pair.
 impl Graph for PairList {
@@ -66,21 +66,18 @@ impl Seniority for PairList {
         }
         let mut starts = [false; 64];
         starts[senior as usize] = true;
-        let mut near = [0; 64];
-        let mut home = [0; 64];
+        let mut near = [None; 64];
+        let mut home = [None; 64];
         let mut strip = [0; 64];
-        match best_chain(
+        best_chain(
             self,
             &starts,
             junior as usize,
             &mut near,
             &mut home,
             &mut strip,
-        ) {
-            Outcome::Found { len: _, looked: _ } => true,
-            Outcome::NoChain { looked: _ } => false,
-            Outcome::Unfit => false,
-        }
+        )
+        .is_ok_and(|found| found.len.is_some())
     }
 
     fn keep(&mut self, senior: u8, junior: u8) -> Result<(), Refusal> {

@@ -55,29 +55,29 @@ fn chain(rt: &HostRuntime, office: &ListOffice, senior: u8, junior: u8) -> io::R
     if senior < 64 {
         starts[senior as usize] = true;
     }
-    let mut near = [0; 64];
-    let mut home = [0; 64];
+    let mut near = [None; 64];
+    let mut home = [None; 64];
     let mut strip = [0; 64];
     let first = role_name(u16::from(senior));
     let second = role_name(u16::from(junior));
-    match best_chain(
+    let Ok(Outcome { len, looked }) = best_chain(
         office,
         &starts,
         junior as usize,
         &mut near,
         &mut home,
         &mut strip,
-    ) {
-        Outcome::Found { len, looked } => {
+    ) else {
+        return println!(rt; "  from {first} to {second}: there is no such role");
+    };
+    match len {
+        Some(len) => {
             print!(rt;
                 "  from {first} to {second}: a chain of length {len}, after a look at {looked}:"
             )?;
             written(rt, &strip, len)
         }
-        Outcome::NoChain { looked } => println!(rt;
-            "  from {first} to {second}: no chain, after a look at {looked}"
-        ),
-        Outcome::Unfit => println!(rt; "  from {first} to {second}: there is no such role"),
+        None => println!(rt; "  from {first} to {second}: no chain, after a look at {looked}"),
     }
 }
 
