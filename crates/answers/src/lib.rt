@@ -66,6 +66,7 @@ pub enum Refusal {
 }
 
 impl Refusal {
+    // The numbers stand in one definition, `number_of`, and here alone in code: a rule of the project.
     // no `From<Refusal> for u8`: at a caller `refusal.number()` says what the byte is, and `u8::from(refusal)` does not
     pub fn number(self) -> u8
         ensures { result ≡ number_of self }

@@ -6,9 +6,9 @@ mod fields;
 #[cfg(test)]
 mod rows;
 #[cfg(test)]
-mod sheet;
+mod shared;
 #[cfg(test)]
-mod told;
+mod sheet;
 #[cfg(test)]
 mod words;
 #[cfg(test)]

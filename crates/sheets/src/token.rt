@@ -1,7 +1,8 @@
 // A line of a sheet, read.
 use std::fmt;
 
-// A token is a request with its numbers. A box has a shelf mark in place of numbers: the twelve bytes of the line itself.
+// A token is a request with its numbers. A box has a shelf mark in place of numbers: the twelve bytes of the line itself,
+// and no copy of them. Both are rules of the project.
 #[derive(Clone, Copy, PartialEq, Eq, Debug)]
 pub enum Token<'a> {
     Issue { card: u32, office: u32 },
