@@ -51,7 +51,7 @@ back_word sole.Send = refl
 same_word : (w v : Word) → word_of w ≡ word_of v → w ≡ v
 same_word w v e = sym (back_word w) ∙ ap (λ (bs : List ℕ). back (key bs)) e ∙ back_word v
 
-pub word_eight : (w : Word) → length (word_of w) ≡ 8
+word_eight : (w : Word) → length (word_of w) ≡ 8
 word_eight (Pair word.Issue) = refl
 word_eight (Pair word.Assign) = refl
 word_eight (Pair word.Relieve) = refl

@@ -1,7 +1,7 @@
 // From a token to its line, and numbers in columns.
-ghost use Rattle.std.specs.Prelude.{◌≡◌, ◌++◌};
+ghost use Rattle.std.specs.Prelude.{◌≡◌, ◌++◌, length};
 ghost use Rattle.sheet_words.specs.Words.{word_of};
-ghost use Rattle.sheets.specs.Slips.{meaning, pair_slip, box_slip};
+ghost use Rattle.sheets.specs.Slips.{meaning, pair_slip, handback_slip, box_slip};
 ghost use Rattle.sheets.specs.Writing.{LineOf, Writes, PutFour};
 
 use crate::numbers::field_of;
@@ -10,21 +10,29 @@ use crate::token::Token;
 use answers::Refusal;
 use sheet_words::{PairWord, Word, write_word};
 
-// A word and two fields, one after the other.
-fn joined(word: Word, first: [u8; 6], second: [u8; 6]) -> [u8; 20]
-    ensures { result ≡ word_of word ++ (first ++ second) }
+// A word and the twelve bytes that follow it.
+fn joined(word: Word, rest: &[u8]) -> [u8; 20]
+    requires { length rest.now ≡ 12 }
+    ensures { result ≡ word_of word ++ rest.now }
 {
     let mut line = [b' '; 20];
     line[..8].copy_from_slice(&write_word(word));
-    line[8..14].copy_from_slice(&first);
-    line[14..].copy_from_slice(&second);
+    line[8..].copy_from_slice(rest);
     line
 }
 
 fn pair_line(word: PairWord, first: u32, second: u32) -> Result<[u8; 20], Refusal>
     ensures { LineOf (pair_slip word first second) result }
 {
-    Ok(joined(Word::Pair(word), field_of(first)?, field_of(second)?))
+    let fields = [field_of(first)?, field_of(second)?];
+    Ok(joined(Word::Pair(word), fields.as_flattened()))
+}
+
+fn handback_line(card: u32) -> Result<[u8; 20], Refusal>
+    ensures { LineOf (handback_slip card) result }
+{
+    let fields = [field_of(card)?, *b"      "];
+    Ok(joined(Word::Handback, fields.as_flattened()))
 }
 
 fn box_line(mark: &[u8]) -> Result<[u8; 20], Refusal>
@@ -33,22 +41,18 @@ fn box_line(mark: &[u8]) -> Result<[u8; 20], Refusal>
     if !is_mark(mark) {
         return Err(Refusal::BadField);
     }
-    let mut line = [b' '; 20];
-    line[..8].copy_from_slice(&write_word(Word::Box));
-    line[8..].copy_from_slice(mark);
-    Ok(line)
+    Ok(joined(Word::Box, mark))
 }
 
 // The token's line.
 fn line_of(token: Token<'_>) -> Result<[u8; 20], Refusal>
     ensures { LineOf (meaning token.entry) result }
 {
-    let blank = *b"      ";
     match token {
         Token::Issue { card, office } => pair_line(PairWord::Issue, card, office),
         Token::Assign { card, code } => pair_line(PairWord::Assign, card, code),
         Token::Relieve { card, code } => pair_line(PairWord::Relieve, card, code),
-        Token::Handback { card } => Ok(joined(Word::Handback, field_of(card)?, blank)),
+        Token::Handback { card } => handback_line(card),
         Token::Trust { truster, trusted } => pair_line(PairWord::Trust, truster, trusted),
         Token::Distrust { truster, trusted } => pair_line(PairWord::Distrust, truster, trusted),
         Token::Link { from, to } => pair_line(PairWord::Link, from, to),
@@ -58,7 +62,7 @@ fn line_of(token: Token<'_>) -> Result<[u8; 20], Refusal>
         Token::Withdraw { from, to } => pair_line(PairWord::Withdraw, from, to),
         Token::May { card, code } => pair_line(PairWord::May, card, code),
         Token::Box { mark } => box_line(mark),
-        Token::Send => Ok(joined(Word::Send, blank, blank)),
+        Token::Send => Ok(joined(Word::Send, b"            ")),
     }
 }
 
