@@ -9,7 +9,7 @@ use Rattle.sheet_words.specs.Words.{word_of, Spells}
 use Rattle.sheets.specs.declared.fault.Fault.{Fault}
 use Rattle.sheets.specs.declared.fault.Fault.TheVariants.{WrongLength, UnknownWord, BadField}
 use Rattle.sheets.specs.Columns.{six, HoldsNumber, ReadsNumber}
-use Rattle.sheets.specs.Slips.{pair_slip, handback_slip, box_slip, send_slip, written, Writable, blank, Mark}
+use Rattle.sheets.specs.Slips.{pair_slip, handback_slip, written, Writable, blank}
 use Rattle.sheets.specs.Reading.{first, second, mark_in, BadAt, FirstBad, Reads, BothRead}
 
 -- from its word and its two fields
@@ -70,12 +70,6 @@ pub handback_bad :
 handback_bad l v x y f n e q a b h =
     both_bad _ _ l v sole.Handback x y f n e q (tells_number (first l) x a) (tells_blank (second l) y b) h (λ c t. t)
 
-pub send_bad :
-    (l : List ℕ) (v : Word) (x y : Option (Unit {0})) (f : Fault) → length l ≡ 20 → take 8 l ≡ word_of v → v ≡ sole.Send
-    → ReadsBlank (first l) x → ReadsBlank (second l) y → BothRead x y (Err f) → Reads l (Err f)
-send_bad l v x y f n e q a b h =
-    both_bad _ _ l v sole.Send x y f n e q (tells_blank (first l) x a) (tells_blank (second l) y b) h (λ c t. t)
-
 pub pair_line :
     (l : List ℕ) (w : Word) (p : PairWord) (x y : Option ℕ) (a b : ℕ) → length l ≡ 20 → take 8 l ≡ word_of w → w ≡ Pair p
     → ReadsNumber (first l) x → ReadsNumber (second l) y → BothRead x y (Ok (a, b))
@@ -93,18 +87,3 @@ handback_line l w x y a u n e q rx ry r =
     let ha = subst (ReadsNumber (first l)) r.0 rx in
     let hb = subst (ReadsBlank (second l)) r.1 ry in
     (ha.0, from_parts l (word_of sole.Handback) (six a) blank n (e ∙ ap word_of q) ha.1 hb)
-
-pub box_line :
-    (l m : List ℕ) (w : Word) → length l ≡ 20 → take 8 l ≡ word_of w → w ≡ sole.Box → m ≡ mark_in l → Mark m
-    → Writable (box_slip m) × (l ≡ written (box_slip m))
-box_line l m w n e q is good =
-    (good, sym (take-append-drop 8 l) ∙ rw (e ∙ ap word_of q, sym (mark_whole l n), sym is))
-
-pub send_line :
-    (l : List ℕ) (w : Word) (x y : Option (Unit {0})) (u v : Unit {0}) → length l ≡ 20 → take 8 l ≡ word_of w → w ≡ sole.Send
-    → ReadsBlank (first l) x → ReadsBlank (second l) y → BothRead x y (Ok (u, v))
-    → Writable send_slip × (l ≡ written send_slip)
-send_line l w x y u v n e q rx ry h =
-    let ha = subst (ReadsBlank (first l)) h.0 rx in
-    let hb = subst (ReadsBlank (second l)) h.1 ry in
-    (tt, from_parts l (word_of sole.Send) blank blank n (e ∙ ap word_of q) ha hb)
