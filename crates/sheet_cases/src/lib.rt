@@ -4,6 +4,8 @@
 #[cfg(test)]
 mod fields;
 #[cfg(test)]
+mod printing;
+#[cfg(test)]
 mod rows;
 #[cfg(test)]
 mod shared;

@@ -42,8 +42,10 @@ impl From<Fault> for Refusal {
 impl fmt::Display for Fault {
     fn fmt<W: fmt::Write>(&self, f: &mut fmt::Formatter<W>) -> fmt::Result {
         let refusal = Refusal::from(*self);
-        let column = self.column();
-        write!(f, "{refusal}, at column {column}")
+        match self {
+            Fault::BadField { column } => write!(f, "{refusal}, at column {column}"),
+            _ => write!(f, "{refusal}"),
+        }
     }
 }
 

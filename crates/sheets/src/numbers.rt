@@ -63,6 +63,7 @@ pub fn read_number(field: &[u8]) -> Option<u32>
     if field.len() != 6 {
         return None;
     }
+    // no `fold`: that the number fits follows from how many bytes were read
     let mut number = 0;
     for byte in field {
         number = number * 10 + count_of(*byte);
