@@ -4,6 +4,9 @@
 ghost use Rattle.std.specs.Prelude.{◌≡◌};
 ghost use Rattle.answers.specs.Numbers.{number_of};
 
+use std::error::Error;
+use std::fmt;
+
 #[derive(Clone, Copy, PartialEq, Eq, Debug)]
 pub enum Refusal {
     // a slip: no such office
@@ -63,6 +66,8 @@ pub enum Refusal {
 }
 
 impl Refusal {
+    // The numbers stand in one definition, `number_of`, and here alone in code: a rule of the project.
+    // no `From<Refusal> for u8`: at a caller `refusal.number()` says what the byte is, and `u8::from(refusal)` does not
     pub fn number(self) -> u8
         ensures { result ≡ number_of self }
     {
@@ -97,3 +102,41 @@ impl Refusal {
         }
     }
 }
+
+// Why, as a sentence without its full stop.
+impl fmt::Display for Refusal {
+    fn fmt<W: fmt::Write>(&self, f: &mut fmt::Formatter<W>) -> fmt::Result {
+        f.write_str(match self {
+            Refusal::NoSuchOffice => "there is no such office",
+            Refusal::NoSuchCode => "no role has this code",
+            Refusal::NoSuchCard => "there is no card above 255",
+            Refusal::ShortStrip => "the strip has fewer than 1,024 places",
+            Refusal::SameOffice => "both codes are of one office",
+            Refusal::AlreadyLinked => "the link stands already",
+            Refusal::NotLinked => "the link does not stand",
+            Refusal::AlreadySuspended => "the link is suspended already",
+            Refusal::AlreadyInForce => "the link is in force already",
+            Refusal::NotShared => "the role linked to is not shared",
+            Refusal::OwnTrust => "an office cannot distrust itself",
+            Refusal::AlreadyIssued => "the card is issued already",
+            Refusal::NotIssued => "the card is not issued",
+            Refusal::ForeignRole => "the role is of another office than the card's",
+            Refusal::AlreadyHeld => "the card holds the role already",
+            Refusal::NotHeld => "the card does not hold the role",
+            Refusal::LinksFull => "there are 256 links already",
+            Refusal::Unsound => "the result would be unsound",
+            Refusal::NoSuchRole => "there is no such role",
+            Refusal::Circular => "the two are one role, or the junior is over the senior already",
+            Refusal::PairsFull => "there are 128 pairs already",
+            Refusal::SeniorTaken => "the junior has a direct senior already",
+            Refusal::BadSet => "a set has 2 to 8 different roles and a bound from 2 to its size",
+            Refusal::SetsFull => "there are 8 sets already",
+            Refusal::WrongLength => "the line has another length",
+            Refusal::UnknownWord => "the line begins with no request's word",
+            Refusal::BadField =>
+                "a number, a shelf mark or an unused field is not written as it should be",
+        })
+    }
+}
+
+impl Error for Refusal {}

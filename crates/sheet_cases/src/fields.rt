@@ -1,14 +1,37 @@
 // Numbers, shelf marks and unused fields, good and bad.
-use crate::told::{faulty, reads};
+use crate::shared::{faulty, reads};
+use sheets::Token;
 use std::test::Fail;
 
 #[test]
 fn numbers(rt: HostRuntime) -> Result<(), Fail> {
-    reads(&rt, b"LINK         0     9", "link", 0, 9)?;
-    reads(&rt, b"LINK        10 99999", "link", 10, 99_999)?;
-    reads(&rt, b"LINK    100000999999", "link", 100_000, 999_999)?;
-    reads(&rt, b"LINK       102   102", "link", 102, 102)?;
-    reads(&rt, b"HANDBACK999999      ", "handback", 999_999, 0)
+    reads(&rt, b"LINK         0     9", Token::Link { from: 0, to: 9 })?;
+    reads(
+        &rt,
+        b"LINK        10 99999",
+        Token::Link {
+            from: 10,
+            to: 99_999,
+        },
+    )?;
+    reads(
+        &rt,
+        b"LINK    100000999999",
+        Token::Link {
+            from: 100_000,
+            to: 999_999,
+        },
+    )?;
+    reads(
+        &rt,
+        b"LINK       102   102",
+        Token::Link { from: 102, to: 102 },
+    )?;
+    reads(
+        &rt,
+        b"HANDBACK999999      ",
+        Token::Handback { card: 999_999 },
+    )
 }
 
 #[test]
@@ -56,16 +79,16 @@ fn marks(rt: HostRuntime) -> Result<(), Fail> {
     reads(
         &rt,
         b"BOX     \x20\x20\x20\x20\x20\x20\x20\x20\x20\x20\x20\x20",
-        "box",
-        0,
-        0,
+        Token::Box {
+            mark: b"\x20\x20\x20\x20\x20\x20\x20\x20\x20\x20\x20\x20",
+        },
     )?;
     reads(
         &rt,
         b"BOX     \x7E\x7E\x7E\x7E\x7E\x7E\x7E\x7E\x7E\x7E\x7E\x7E",
-        "box",
-        0,
-        0,
+        Token::Box {
+            mark: b"\x7E\x7E\x7E\x7E\x7E\x7E\x7E\x7E\x7E\x7E\x7E\x7E",
+        },
     )?;
     faulty(&rt, b"BOX     \x1Faaaaaaaaaaa", 33, 9)?;
     faulty(&rt, b"BOX     \x7Faaaaaaaaaaa", 33, 9)?;

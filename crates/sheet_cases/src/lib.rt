@@ -4,11 +4,13 @@
 #[cfg(test)]
 mod fields;
 #[cfg(test)]
+mod printing;
+#[cfg(test)]
 mod rows;
 #[cfg(test)]
-mod sheet;
+mod shared;
 #[cfg(test)]
-mod told;
+mod sheet;
 #[cfg(test)]
 mod words;
 #[cfg(test)]

@@ -1,5 +1,6 @@
 // Four numbers in columns.
 use sheets::columns;
+use std::process::Abort;
 use std::test::Fail;
 
 #[test]
@@ -12,28 +13,24 @@ fn four_numbers(rt: HostRuntime) -> Result<(), Fail> {
     Ok(())
 }
 
-#[test]
-fn refused(rt: HostRuntime) -> Result<(), Fail> {
-    let mut line = [b'?'; 24];
-    match columns([0, 0, 0, 1_000_000], &mut line) {
+// Question marks, refused by this number, stay as they are.
+fn refused(rt: &impl Abort, numbers: [u32; 4], line: &mut [u8], number: u8) -> Result<(), Fail> {
+    match columns(numbers, line) {
         Ok(()) => Err(Fail::new("it is written")),
         Err(refusal) => {
-            assert_eq!(rt; refusal.number(), 33);
-            assert_eq!(rt; line, [b'?'; 24]);
+            assert_eq!(rt; refusal.number(), number);
+            assert!(rt; line.iter().all(|byte| *byte == b'?'));
             Ok(())
         }
     }
 }
 
 #[test]
+fn too_large(rt: HostRuntime) -> Result<(), Fail> {
+    refused(&rt, [0, 0, 0, 1_000_000], &mut [b'?'; 24], 33)
+}
+
+#[test]
 fn wrong_length(rt: HostRuntime) -> Result<(), Fail> {
-    let mut line = [b'?'; 25];
-    match columns([0, 0, 0, 1_000_000], &mut line) {
-        Ok(()) => Err(Fail::new("it is written")),
-        Err(refusal) => {
-            assert_eq!(rt; refusal.number(), 31);
-            assert_eq!(rt; line, [b'?'; 25]);
-            Ok(())
-        }
-    }
+    refused(&rt, [0, 0, 0, 1_000_000], &mut [b'?'; 25], 31)
 }

@@ -5,7 +5,7 @@ use std::test::Fail;
 
 // The next line is this one.
 fn given(rt: &impl Abort, lines: &mut Lines<'_>, line: &[u8]) -> Result<(), Fail> {
-    match lines.next_line() {
+    match lines.next() {
         Some(next) => {
             assert_eq!(rt; next, line);
             Ok(())
@@ -16,8 +16,8 @@ fn given(rt: &impl Abort, lines: &mut Lines<'_>, line: &[u8]) -> Result<(), Fail
 
 // No line is left, however often it is asked for.
 fn ended(rt: &impl Abort, mut lines: Lines<'_>) {
-    assert!(rt; lines.next_line().is_none());
-    assert!(rt; lines.next_line().is_none());
+    assert!(rt; lines.next().is_none());
+    assert!(rt; lines.next().is_none());
 }
 
 #[test]

@@ -1,31 +1,84 @@
 // Every request's word, and bytes that are none.
-use crate::told::{faulty, reads};
+use crate::shared::{faulty, reads};
+use sheets::Token;
 use std::test::Fail;
 
 #[test]
 fn two_numbers(rt: HostRuntime) -> Result<(), Fail> {
-    reads(&rt, b"ISSUE        7     1", "issue", 7, 1)?;
-    reads(&rt, b"ASSIGN       7    65", "assign", 7, 65)?;
-    reads(&rt, b"RELIEVE      7    65", "relieve", 7, 65)?;
-    reads(&rt, b"TRUST        1     2", "trust", 1, 2)?;
-    reads(&rt, b"DISTRUST     1     2", "distrust", 1, 2)?;
-    reads(&rt, b"LINK        65     1", "link", 65, 1)
+    reads(
+        &rt,
+        b"ISSUE        7     1",
+        Token::Issue { card: 7, office: 1 },
+    )?;
+    reads(
+        &rt,
+        b"ASSIGN       7    65",
+        Token::Assign { card: 7, code: 65 },
+    )?;
+    reads(
+        &rt,
+        b"RELIEVE      7    65",
+        Token::Relieve { card: 7, code: 65 },
+    )?;
+    reads(
+        &rt,
+        b"TRUST        1     2",
+        Token::Trust {
+            truster: 1,
+            trusted: 2,
+        },
+    )?;
+    reads(
+        &rt,
+        b"DISTRUST     1     2",
+        Token::Distrust {
+            truster: 1,
+            trusted: 2,
+        },
+    )?;
+    reads(
+        &rt,
+        b"LINK        65     1",
+        Token::Link { from: 65, to: 1 },
+    )
 }
 
 #[test]
 fn two_numbers_more(rt: HostRuntime) -> Result<(), Fail> {
-    reads(&rt, b"TRY         65     1", "try", 65, 1)?;
-    reads(&rt, b"SUSPEND     65     1", "suspend", 65, 1)?;
-    reads(&rt, b"RESUME      65     1", "resume", 65, 1)?;
-    reads(&rt, b"WITHDRAW    65     1", "withdraw", 65, 1)?;
-    reads(&rt, b"MAY          7    65", "may", 7, 65)
+    reads(&rt, b"TRY         65     1", Token::Try { from: 65, to: 1 })?;
+    reads(
+        &rt,
+        b"SUSPEND     65     1",
+        Token::Suspend { from: 65, to: 1 },
+    )?;
+    reads(
+        &rt,
+        b"RESUME      65     1",
+        Token::Resume { from: 65, to: 1 },
+    )?;
+    reads(
+        &rt,
+        b"WITHDRAW    65     1",
+        Token::Withdraw { from: 65, to: 1 },
+    )?;
+    reads(
+        &rt,
+        b"MAY          7    65",
+        Token::May { card: 7, code: 65 },
+    )
 }
 
 #[test]
 fn fewer_numbers(rt: HostRuntime) -> Result<(), Fail> {
-    reads(&rt, b"HANDBACK     7      ", "handback", 7, 0)?;
-    reads(&rt, b"BOX     SHELF MARK 1", "box", 0, 0)?;
-    reads(&rt, b"SEND                ", "send", 0, 0)
+    reads(&rt, b"HANDBACK     7      ", Token::Handback { card: 7 })?;
+    reads(
+        &rt,
+        b"BOX     SHELF MARK 1",
+        Token::Box {
+            mark: b"SHELF MARK 1",
+        },
+    )?;
+    reads(&rt, b"SEND                ", Token::Send)
 }
 
 #[test]

@@ -29,6 +29,7 @@ pub enum Word {
     Send,
 }
 
+// One case for each request, by its literal word, here and in `read_word`: so a rule of the project has it.
 pub fn write_word(word: Word) -> [u8; 8]
     ensures { result ≡ word_of word }
 {
@@ -51,6 +52,7 @@ pub fn write_word(word: Word) -> [u8; 8]
 }
 
 // The word that the bytes spell, if they spell one.
+#[tactic(auto, using(crate::proofs::Eight::from_eight))]
 pub fn read_word(bytes: &[u8]) -> Option<Word>
     ensures { Spells bytes.now result }
 {

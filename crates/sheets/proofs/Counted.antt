@@ -1,4 +1,4 @@
-use Rattle.std.proofs.Common.{◌≡◌, ℕ, ◌+◌, ◌*◌, ◌/◌, ◌%◌, ◌<◌, ◌≤◌, Bool, true, false, cond, ltb, List, length, get_or, take, sym, refl, ap, ◌∙◌, arith, ltb-true, le-ltb, lt-ltb}
+use Rattle.std.proofs.Common.{◌≡◌, ℕ, zero, suc, ◌+◌, ◌-◌, ◌*◌, ◌/◌, ◌%◌, ◌^◌, ◌<◌, ◌≤◌, Bool, true, false, cond, ltb, List, length, get_or, sym, refl, ap, ◌∙◌, arith, ltb-true, le-ltb, lt-ltb}
 use Rattle.sheets.specs.Columns.{column_byte, six, counts}
 
 counts_digit : (d : ℕ) → d < 10 → counts (48 + d) ≡ d
@@ -27,24 +27,31 @@ counts_six n a b c d e f h qa qb qc qd qe qf =
     let pf : f ≡ n % 10 = qf ∙ counts_digit (n % 10) (omega arith) in
     omega arith
 
--- where a field holds a number, the number that its columns count is written as the field
-pub written_again :
-    (s w : List ℕ) (a b c d e f : ℕ)
-    → a ≡ counts (get_or s 0 0) → b ≡ counts (get_or s 1 0) → c ≡ counts (get_or s 2 0) → d ≡ counts (get_or s 3 0)
-    → e ≡ counts (get_or s 4 0) → f ≡ counts (get_or s 5 0)
-    → w ≡ six (a * 100000 + b * 10000 + c * 1000 + d * 100 + e * 10 + f)
-    → (n : ℕ) → n ≤ 999999 → s ≡ six n → take 6 w ≡ s
-unfolding six
-written_again s w a b c d e f qa qb qc qd qe qf q n h is =
-    let m : a * 100000 + b * 10000 + c * 1000 + d * 100 + e * 10 + f ≡ n =
-    counts_six n a b c d e f h
-    (qa ∙ ap (λ (l : List ℕ). counts (get_or l 0 0)) is)
-    (qb ∙ ap (λ (l : List ℕ). counts (get_or l 1 0)) is)
-    (qc ∙ ap (λ (l : List ℕ). counts (get_or l 2 0)) is)
-    (qd ∙ ap (λ (l : List ℕ). counts (get_or l 3 0)) is)
-    (qe ∙ ap (λ (l : List ℕ). counts (get_or l 4 0)) is)
-    (qf ∙ ap (λ (l : List ℕ). counts (get_or l 5 0)) is) in
-    ap (take 6) (q ∙ ap six m) ∙ sym is
+-- what the first columns of a field count
+abbrev pub upto : List ℕ → ℕ → ℕ
+upto field zero = 0
+upto field (suc k) = upto field k * 10 + counts (get_or field k 0)
+
+small_by_test : (s t : Bool) (b : ℕ) → (t ≡ true → b < 58) → cond s 0 (cond t (b - 48) 0) < 10
+small_by_test true t b h = omega arith
+small_by_test false true b h = let l : b < 58 = h refl in omega arith
+small_by_test false false b h = omega arith
+
+counts_small : (b : ℕ) → counts b < 10
+counts_small b = small_by_test (ltb b 48) (ltb b 58) b (ltb-true b 58)
+
+pub upto_below : (field : List ℕ) (k : ℕ) → upto field k < 10 ^ k
+upto_below field zero = omega arith
+upto_below field (suc k) = let h = upto_below field k in let d = counts_small (get_or field k 0) in omega arith
+
+pub upto_fits : (field : List ℕ) (k : ℕ) → k < 6 → upto field k < 100000
+upto_fits field zero l = omega arith
+upto_fits field (suc zero) l = let h = upto_below field 1 in omega arith
+upto_fits field (suc (suc zero)) l = let h = upto_below field 2 in omega arith
+upto_fits field (suc (suc (suc zero))) l = let h = upto_below field 3 in omega arith
+upto_fits field (suc (suc (suc (suc zero)))) l = let h = upto_below field 4 in omega arith
+upto_fits field (suc (suc (suc (suc (suc zero))))) l = let h = upto_below field 5 in omega arith
+upto_fits field (suc (suc (suc (suc (suc (suc k)))))) l = absurd (omega arith)
 
 pub length_six : (n : ℕ) → length (six n) ≡ 6
 unfolding six

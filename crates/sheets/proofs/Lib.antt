@@ -4,4 +4,3 @@ pub mod Counted
 pub mod Properly
 pub mod Parts
 pub mod Round
-pub mod Pasting

@@ -1,13 +1,20 @@
 -- How a number stands in its six columns.
-use Rattle.std.proofs.Common.{◌≡◌, ℕ, zero, suc, ◌+◌, ◌/◌, ◌%◌, ◌<◌, ◌≤◌, Bool, true, false, cond, ltb, ◌⊎◌, get_or, refl, inl, inr, arith, ltb-false, ltb-true}
+use Rattle.std.proofs.Common.{◌≡◌, ℕ, zero, suc, ◌+◌, ◌/◌, ◌%◌, ◌<◌, ◌≤◌, Bool, true, false, cond, ltb, ◌⊎◌, List, get_or, sym, refl, ap, ◌∙◌, inl, inr, arith, ltb-false, ltb-true}
 use Rattle.sheets.specs.Columns.{column_byte, six}
 use Rattle.sheets.specs.Fields.{value, Proper}
-use Rattle.sheets.proofs.Counted.{counts_six}
+use Rattle.sheets.proofs.Counted.{counts_six, upto}
 
 -- the digits of a number's columns make it
 pub number_six : (n : ℕ) → n ≤ 999999 → value (six n) ≡ n
 unfolding six
 number_six n h = counts_six n _ _ _ _ _ _ h refl refl refl refl refl refl
+
+upto_value : (s : List ℕ) → upto s 6 ≡ value s
+upto_value s = omega arith
+
+-- where a field holds a number, the number that its columns count is written as the field
+pub written_again : (s : List ℕ) (m n : ℕ) → m ≡ upto s 6 → n ≤ 999999 → s ≡ six n → six m ≡ s
+written_again s m n q h is = ap six (q ∙ upto_value s ∙ ap value is ∙ number_six n h) ∙ sym is
 
 -- a column's byte: a space if the number is below its power, else the digit
 abbrev Either : ℕ → ℕ → Type 0

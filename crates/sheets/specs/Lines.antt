@@ -22,6 +22,10 @@ abbrev pub Gives : Lines → Option (Bor (List ℕ)) → Lines → Type 0
 Gives before None after = (lines_left before ≡ []) × (after.place ≡ before.place)
 Gives before (Some line) after = lines_left before ≡ line.now ∷ lines_left after
 
+-- the same call goes on in the same sheet
+abbrev pub Goes : Lines → Option (Bor (List ℕ)) → Lines → Type 0
+Goes before line after = (after.sheet ≡ before.sheet) × Gives before line after
+
 -- lines put together again, each with its line feed
 abbrev pub fed : List (List ℕ) → List ℕ
 fed [] = []

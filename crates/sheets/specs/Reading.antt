@@ -1,5 +1,5 @@
 -- What a line reads as.
-use Rattle.std.specs.Prelude.{◌≡◌, ℕ, ◌+◌, ◌⊎◌, List, length, take, drop, Ok, Err, Result, ◌≢◌}
+use Rattle.std.specs.Prelude.{◌≡◌, ℕ, ◌+◌, ◌⊎◌, List, length, take, drop, Some, None, Option, Ok, Err, Result, ◌≢◌}
 use Rattle.std.specs.Borrow.{Bor}
 use Rattle.sheet_words.specs.declared.Word.{Word}
 use Rattle.sheet_words.specs.declared.Word.TheVariants.{Pair}
@@ -9,7 +9,7 @@ use Rattle.sheets.specs.declared.fault.Fault.{Fault}
 use Rattle.sheets.specs.declared.fault.Fault.TheVariants.{WrongLength, UnknownWord, BadField}
 use Rattle.sheets.specs.declared.token.Token.{Token}
 use Rattle.sheets.specs.declared.token.Token.TheVariants.{Box}
-use Rattle.sheets.specs.Columns.{Holds, HoldsNumber}
+use Rattle.sheets.specs.Columns.{HoldsNumber}
 use Rattle.sheets.specs.Slips.{Slip, meaning, written, blank, Mark, Writable}
 
 -- columns 9 to 14, columns 15 to 20, and both
@@ -58,28 +58,9 @@ Lent line mark =
 abbrev pub BoxLent : Bor (List ℕ) → Result Token Fault → Type 0
 BoxLent line r = (mark : Bor (List ℕ)) → r ≡ Ok (Box mark) → Lent line mark
 
--- what the readers of the fields give
-abbrev pub AtField : (ℕ → Type 0) → Fault → Type 0
-AtField P WrongLength = ⊥
-AtField P UnknownWord = ⊥
-AtField P (BadField column) = P column
-
-abbrev pub PairRead : List ℕ → Result (ℕ × ℕ) Fault → Type 0
-PairRead line (Ok p) = Holds (first line) p.0 × Holds (second line) p.1
-PairRead line (Err e) = AtField (BadAt (HoldsNumber (first line)) (HoldsNumber (second line))) e
-
-abbrev pub OneRead : List ℕ → Result ℕ Fault → Type 0
-OneRead line (Ok n) = Holds (first line) n × (second line ≡ blank)
-OneRead line (Err e) = AtField (FirstBad sole.Handback line) e
-
-abbrev pub NoneRead : List ℕ → Result (Unit {0}) Fault → Type 0
-NoneRead line (Ok u) = (first line ≡ blank) × (second line ≡ blank)
-NoneRead line (Err e) = AtField (FirstBad sole.Send line) e
-
-abbrev pub MarkRead : List ℕ → Result (Bor (List ℕ)) Fault → Type 0
-MarkRead line (Ok mark) = (mark.now ≡ mark_in line) × Mark mark.now
-MarkRead line (Err e) = AtField (FirstBad sole.Box line) e
-
-abbrev pub MarkLent : Bor (List ℕ) → Result (Bor (List ℕ)) Fault → Type 0
-MarkLent line (Ok mark) = Lent line mark
-MarkLent line (Err e) = Unit {0}
+-- what was read of a line's two fields, or the first that is bad
+abbrev pub BothRead : {A B : Type 0} → Option A → Option B → Result (A × B) Fault → Type 0
+BothRead a b (Ok p) = (a ≡ Some p.0) × (b ≡ Some p.1)
+BothRead a b (Err WrongLength) = ⊥
+BothRead a b (Err UnknownWord) = ⊥
+BothRead a b (Err (BadField column)) = BadAt (a ≢ None) (b ≢ None) column

@@ -1,11 +1,10 @@
 -- What the writers leave in the caller's line.
 use Rattle.std.specs.Prelude.{◌≡◌, ℕ, ◌≤◌, ◌⊎◌, List, ◌++◌, length, Ok, Err, Result, ◌≢◌, slice_index}
-use Rattle.sheet_words.specs.declared.PairWord.{PairWord}
 use Rattle.answers.specs.declared.Refusal.{Refusal}
 use Rattle.answers.specs.declared.Refusal.TheVariants.{WrongLength, BadField}
 use Rattle.sheets.specs.declared.token.Token.{Token}
 use Rattle.sheets.specs.Columns.{six}
-use Rattle.sheets.specs.Slips.{Slip, pair_slip, handback_slip, box_slip, meaning, written, Writable}
+use Rattle.sheets.specs.Slips.{Slip, meaning, written, Writable}
 
 -- the bytes `line`, if there is room for exactly that many and they can be written; else all is as it was
 abbrev pub Put : ℕ → Type 0 → List ℕ → List ℕ → Result (Unit {0}) Refusal → List ℕ → Type 0
@@ -17,14 +16,10 @@ Put size Good line before (Err e) after =
 abbrev pub PutSlip : Slip → List ℕ → Result (Unit {0}) Refusal → List ℕ → Type 0
 PutSlip s = Put 20 (Writable s) (written s)
 
-abbrev pub PutPair : PairWord → ℕ → ℕ → List ℕ → Result (Unit {0}) Refusal → List ℕ → Type 0
-PutPair w a b = PutSlip (pair_slip w a b)
-
-abbrev pub PutOne : ℕ → List ℕ → Result (Unit {0}) Refusal → List ℕ → Type 0
-PutOne a = PutSlip (handback_slip a)
-
-abbrev pub PutMark : List ℕ → List ℕ → Result (Unit {0}) Refusal → List ℕ → Type 0
-PutMark mark = PutSlip (box_slip mark)
+-- the line of what can be written, and of nothing else
+abbrev pub LineOf : Slip → Result (List ℕ) Refusal → Type 0
+LineOf s (Ok line) = Writable s × (line ≡ written s)
+LineOf s (Err e) = (Writable s → ⊥) × (e ≡ BadField)
 
 abbrev pub Writes : Token → List ℕ → Result (Unit {0}) Refusal → List ℕ → Type 0
 Writes t = PutSlip (meaning t)

@@ -1,8 +1,9 @@
 // The lines of a sheet, one after the other.
 ghost use Rattle.std.specs.Prelude.{◌≡◌};
-ghost use Rattle.sheets.specs.Lines.{lines_of, lines_left, Gives};
+ghost use Rattle.std.specs.Iterator.{item_count};
+ghost use Rattle.sheets.specs.Lines.{lines_of, lines_left, Goes};
 
-// A sheet, and the place where its next line begins.
+// A sheet, and the place where its next line begins: a rule of the project has a reader over the sheet's own bytes.
 #[derive(Drop)]
 pub struct Lines<'a> {
     sheet: &'a [u8],
@@ -16,23 +17,32 @@ impl<'a> Lines<'a> {
     {
         Lines { sheet, place: 0 }
     }
+}
+
+impl<'a> Iterator for Lines<'a> {
+    type Item = &'a [u8];
+
+    ghost next_gives = { Goes };
+
+    ghost remaining = { item_count lines_left };
 
     // The next line, without the line feed that ends it, or nothing at the end of the sheet.
-    pub fn next_line(&mut self) -> Option<&'a [u8]>
-        ensures same { self.new.sheet ≡ self.old.sheet }
-        ensures gives { Gives self.old result self.new }
-    {
+    fn next(&mut self) -> Option<&'a [u8]> {
         let sheet = self.sheet;
-        let start = self.place;
-        if start >= sheet.len() {
+        if self.place >= sheet.len() {
             return None;
         }
-        let mut end = start;
-        while end < sheet.len() && sheet[end] != b'\n' {
-            end += 1;
+        let rest = &sheet[self.place..];
+        match rest.iter().position(|byte| *byte == b'\n') {
+            Some(end) => {
+                self.place += end + 1;
+                Some(&rest[..end])
+            }
+            // the last line may lack its line feed
+            None => {
+                self.place = sheet.len();
+                Some(rest)
+            }
         }
-        // the last line may lack its line feed
-        self.place = if end < sheet.len() { end + 1 } else { end };
-        Some(&sheet[start..end])
     }
 }

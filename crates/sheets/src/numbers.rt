@@ -1,9 +1,12 @@
 // Numbers in six columns.
-ghost use Rattle.std.specs.Prelude.{◌≡◌, ◌<◌};
-ghost use Rattle.sheets.specs.Columns.{column_byte, six, counts, ReadsNumber};
+ghost use Rattle.std.specs.Prelude.{◌≡◌, ◌<◌, MatchResult};
+ghost use Rattle.answers.specs.declared.Refusal.TheVariants.{BadField};
+ghost use Rattle.sheets.specs.Columns.{column_byte, six, counts, Holds, ReadsNumber};
+
+use answers::Refusal;
 
 // The largest number that six columns hold.
-pub const LARGEST: u32 = 999_999;
+const LARGEST: u32 = 999_999;
 
 // The byte of the column that counts `power`s: a space where the number has no digit there.
 fn column_of(number: u32, power: u32) -> u8
@@ -21,6 +24,7 @@ fn column_of(number: u32, power: u32) -> u8
 pub fn six_columns(number: u32) -> [u8; 6]
     ensures { result ≡ six number }
 {
+    // no `map` over the powers: the last column stands apart, since it shows a 0
     [
         column_of(number, 100_000),
         column_of(number, 10_000),
@@ -29,6 +33,16 @@ pub fn six_columns(number: u32) -> [u8; 6]
         column_of(number, 10),
         b'0' + (number % 10) as u8,
     ]
+}
+
+// The field of a number that six columns hold.
+pub fn field_of(number: u32) -> Result<[u8; 6], Refusal>
+    ensures { MatchResult result (λ field. Holds field number) (λ refusal. (999999 < number) × (refusal ≡ BadField)) }
+{
+    if number > LARGEST {
+        return Err(Refusal::BadField);
+    }
+    Ok(six_columns(number))
 }
 
 // What a byte counts in its column: its digit, and nothing if it is none.
@@ -49,15 +63,13 @@ pub fn read_number(field: &[u8]) -> Option<u32>
     if field.len() != 6 {
         return None;
     }
-    let number = count_of(field[0]) * 100_000
-        + count_of(field[1]) * 10_000
-        + count_of(field[2]) * 1_000
-        + count_of(field[3]) * 100
-        + count_of(field[4]) * 10
-        + count_of(field[5]);
+    // no `fold`: that the number fits follows from how many bytes were read
+    let mut number = 0;
+    for byte in field {
+        number = number * 10 + count_of(*byte);
+    }
     // leading zeros, stray bytes and numbers on the left are not what the number is written as
-    let written = six_columns(number);
-    if &written[0..6] == field {
+    if six_columns(number).as_slice() == field {
         Some(number)
     } else {
         None

@@ -1,84 +1,38 @@
 // From a line to its token. The word begins at column 1, and the two fields at columns 9 and 15.
-ghost use Rattle.std.specs.Prelude.{◌≡◌, length, Decides};
+ghost use Rattle.std.specs.Prelude.{◌≡◌, ◌≢◌, Decides, MatchOption};
 ghost use Rattle.sheets.specs.Slips.{blank, meaning, pair_slip, Mark};
-ghost use Rattle.sheets.specs.Reading.{PairRead, OneRead, NoneRead, MarkRead, MarkLent, Reads, ReadsBack, BoxLent};
+ghost use Rattle.sheets.specs.Reading.{BothRead, Reads, ReadsBack, BoxLent};
 
 use crate::fault::Fault;
 use crate::numbers::read_number;
 use crate::token::Token;
 use sheet_words::{PairWord, Word, read_word};
 
-fn is_blank(field: &[u8]) -> bool
-    ensures { Decides result (field.now ≡ blank) }
+// An unused field.
+fn read_blank(field: &[u8]) -> Option<()>
+    ensures { MatchOption result (field.now ≢ blank) (λ _. field.now ≡ blank) }
 {
-    field == b"      ".as_slice()
+    if field == b"      ".as_slice() {
+        Some(())
+    } else {
+        None
+    }
 }
 
 // Twelve bytes from the space to the tilde.
 pub fn is_mark(mark: &[u8]) -> bool
     ensures { Decides result (Mark mark.now) }
 {
-    if mark.len() != 12 {
-        return false;
-    }
-    for byte in mark {
-        if *byte < 0x20 || *byte > 0x7E {
-            return false;
-        }
-    }
-    true
+    mark.len() == 12 && mark.iter().all(|byte| matches!(*byte, 0x20..=0x7E))
 }
 
-fn two_numbers(line: &[u8]) -> Result<(u32, u32), Fault>
-    requires { length line.now ≡ 20 }
-    ensures { PairRead line.now result }
+// What was read of the two fields of a line, or the first of them that is bad.
+fn both<A: Drop, B: Drop>(first: Option<A>, second: Option<B>) -> Result<(A, B), Fault>
+    ensures { BothRead first second result }
 {
-    let Some(first) = read_number(&line[8..14]) else {
-        return Err(Fault::BadField { column: 9 });
-    };
-    let Some(second) = read_number(&line[14..20]) else {
-        return Err(Fault::BadField { column: 15 });
-    };
+    let first = first.ok_or(Fault::BadField { column: 9 })?;
+    let second = second.ok_or(Fault::BadField { column: 15 })?;
     Ok((first, second))
-}
-
-fn one_number(line: &[u8]) -> Result<u32, Fault>
-    requires { length line.now ≡ 20 }
-    ensures { OneRead line.now result }
-{
-    let Some(first) = read_number(&line[8..14]) else {
-        return Err(Fault::BadField { column: 9 });
-    };
-    if !is_blank(&line[14..20]) {
-        return Err(Fault::BadField { column: 15 });
-    }
-    Ok(first)
-}
-
-fn no_number(line: &[u8]) -> Result<(), Fault>
-    requires { length line.now ≡ 20 }
-    ensures { NoneRead line.now result }
-{
-    if !is_blank(&line[8..14]) {
-        return Err(Fault::BadField { column: 9 });
-    }
-    if !is_blank(&line[14..20]) {
-        return Err(Fault::BadField { column: 15 });
-    }
-    Ok(())
-}
-
-// The shelf mark is no copy: it is the line's own bytes.
-fn shelf_mark(line: &[u8]) -> Result<&[u8], Fault>
-    requires { length line.now ≡ 20 }
-    ensures reads { MarkRead line.now result }
-    ensures lent { MarkLent line.entry result }
-{
-    let mark = &line[8..20];
-    if !is_mark(mark) {
-        return Err(Fault::BadField { column: 9 });
-    }
-    Ok(mark)
 }
 
 // The request of a word that two numbers follow.
@@ -109,24 +63,29 @@ pub fn read_line<'a>(line: &'a [u8]) -> Result<Token<'a>, Fault>
     if line.len() != 20 {
         return Err(Fault::WrongLength);
     }
-    let Some(word) = read_word(&line[0..8]) else {
-        return Err(Fault::UnknownWord);
-    };
+    let word = read_word(&line[..8]).ok_or(Fault::UnknownWord)?;
+    let first = &line[8..14];
+    let second = &line[14..20];
     match word {
-        Word::Pair(pair_word) => {
-            let (first, second) = two_numbers(line)?;
-            Ok(pair_token(pair_word, first, second))
+        Word::Pair(word) => {
+            let (first, second) = both(read_number(first), read_number(second))?;
+            Ok(pair_token(word, first, second))
         }
         Word::Handback => {
-            let card = one_number(line)?;
+            let (card, ()) = both(read_number(first), read_blank(second))?;
             Ok(Token::Handback { card })
         }
         Word::Box => {
-            let mark = shelf_mark(line)?;
-            Ok(Token::Box { mark })
+            // no copy: the line's own bytes
+            let mark = &line[8..20];
+            if is_mark(mark) {
+                Ok(Token::Box { mark })
+            } else {
+                Err(Fault::BadField { column: 9 })
+            }
         }
         Word::Send => {
-            no_number(line)?;
+            both(read_blank(first), read_blank(second))?;
             Ok(Token::Send)
         }
     }

@@ -1,108 +1,81 @@
 // From a token to its line, and numbers in columns.
 ghost use Rattle.std.specs.Prelude.{◌≡◌, ◌++◌, length};
-ghost use Rattle.sheets.specs.Writing.{PutPair, PutOne, PutMark, Writes, PutFour};
+ghost use Rattle.sheet_words.specs.Words.{word_of};
+ghost use Rattle.sheets.specs.Slips.{meaning, pair_slip, handback_slip, box_slip};
+ghost use Rattle.sheets.specs.Writing.{LineOf, Writes, PutFour};
 
-use crate::numbers::{LARGEST, six_columns};
+use crate::numbers::field_of;
 use crate::reading::is_mark;
 use crate::token::Token;
 use answers::Refusal;
 use sheet_words::{PairWord, Word, write_word};
 
-// The three parts of a line, one after the other.
-fn put_parts(line: &mut [u8], word: &[u8], first: &[u8], second: &[u8])
-    requires { (length line.old ≡ 20) × ((length word.now ≡ 8) × ((length first.now ≡ 6) × (length second.now ≡ 6))) }
-    ensures { line.new ≡ word.now ++ (first.now ++ second.now) }
+// A word and the twelve bytes that follow it.
+fn joined(word: Word, rest: &[u8]) -> [u8; 20]
+    requires { length rest.now ≡ 12 }
+    ensures { result ≡ word_of word ++ rest.now }
 {
-    line[0..8].copy_from_slice(word);
-    line[8..14].copy_from_slice(first);
-    line[14..20].copy_from_slice(second);
+    let mut line = [b' '; 20];
+    line[..8].copy_from_slice(&write_word(word));
+    line[8..].copy_from_slice(rest);
+    line
 }
 
-fn put_pair(line: &mut [u8], word: PairWord, first: u32, second: u32) -> Result<(), Refusal>
-    requires { length line.old ≡ 20 }
-    ensures { PutPair word first second line.old result line.new }
+fn pair_line(word: PairWord, first: u32, second: u32) -> Result<[u8; 20], Refusal>
+    ensures { LineOf (pair_slip word first second) result }
 {
-    if first > LARGEST || second > LARGEST {
-        return Err(Refusal::BadField);
-    }
-    put_parts(
-        line,
-        &write_word(Word::Pair(word)),
-        &six_columns(first),
-        &six_columns(second),
-    );
-    Ok(())
+    let fields = [field_of(first)?, field_of(second)?];
+    Ok(joined(Word::Pair(word), fields.as_flattened()))
 }
 
-fn put_handback(line: &mut [u8], card: u32) -> Result<(), Refusal>
-    requires { length line.old ≡ 20 }
-    ensures { PutOne card line.old result line.new }
+fn handback_line(card: u32) -> Result<[u8; 20], Refusal>
+    ensures { LineOf (handback_slip card) result }
 {
-    if card > LARGEST {
-        return Err(Refusal::BadField);
-    }
-    put_parts(
-        line,
-        &write_word(Word::Handback),
-        &six_columns(card),
-        b"      ",
-    );
-    Ok(())
+    let fields = [field_of(card)?, *b"      "];
+    Ok(joined(Word::Handback, fields.as_flattened()))
 }
 
-fn put_box(line: &mut [u8], mark: &[u8]) -> Result<(), Refusal>
-    requires { length line.old ≡ 20 }
-    ensures { PutMark mark.now line.old result line.new }
+fn box_line(mark: &[u8]) -> Result<[u8; 20], Refusal>
+    ensures { LineOf (box_slip mark.now) result }
 {
     if !is_mark(mark) {
         return Err(Refusal::BadField);
     }
-    put_parts(line, &write_word(Word::Box), &mark[0..6], &mark[6..12]);
-    Ok(())
+    Ok(joined(Word::Box, mark))
 }
 
-// Fills the twenty bytes of `line` with the token's line, or refuses and leaves them as they are.
+// The token's line.
+fn line_of(token: Token<'_>) -> Result<[u8; 20], Refusal>
+    ensures { LineOf (meaning token.entry) result }
+{
+    match token {
+        Token::Issue { card, office } => pair_line(PairWord::Issue, card, office),
+        Token::Assign { card, code } => pair_line(PairWord::Assign, card, code),
+        Token::Relieve { card, code } => pair_line(PairWord::Relieve, card, code),
+        Token::Handback { card } => handback_line(card),
+        Token::Trust { truster, trusted } => pair_line(PairWord::Trust, truster, trusted),
+        Token::Distrust { truster, trusted } => pair_line(PairWord::Distrust, truster, trusted),
+        Token::Link { from, to } => pair_line(PairWord::Link, from, to),
+        Token::Try { from, to } => pair_line(PairWord::Try, from, to),
+        Token::Suspend { from, to } => pair_line(PairWord::Suspend, from, to),
+        Token::Resume { from, to } => pair_line(PairWord::Resume, from, to),
+        Token::Withdraw { from, to } => pair_line(PairWord::Withdraw, from, to),
+        Token::May { card, code } => pair_line(PairWord::May, card, code),
+        Token::Box { mark } => box_line(mark),
+        Token::Send => Ok(joined(Word::Send, b"            ")),
+    }
+}
+
+// Fills the twenty bytes of `line` with the token's line, or refuses and leaves them as they are. The bytes are the
+// caller's, here and in `columns`: a rule of the project, which has no heap.
 pub fn write_line(token: Token<'_>, line: &mut [u8]) -> Result<(), Refusal>
     ensures { Writes token.entry line.old result line.new }
 {
     if line.len() != 20 {
         return Err(Refusal::WrongLength);
     }
-    match token {
-        Token::Issue { card, office } => put_pair(line, PairWord::Issue, card, office),
-        Token::Assign { card, code } => put_pair(line, PairWord::Assign, card, code),
-        Token::Relieve { card, code } => put_pair(line, PairWord::Relieve, card, code),
-        Token::Handback { card } => put_handback(line, card),
-        Token::Trust { truster, trusted } => put_pair(line, PairWord::Trust, truster, trusted),
-        Token::Distrust { truster, trusted } => put_pair(
-            line,
-            PairWord::Distrust,
-            truster,
-            trusted,
-        ),
-        Token::Link { from, to } => put_pair(line, PairWord::Link, from, to),
-        Token::Try { from, to } => put_pair(line, PairWord::Try, from, to),
-        Token::Suspend { from, to } => put_pair(line, PairWord::Suspend, from, to),
-        Token::Resume { from, to } => put_pair(line, PairWord::Resume, from, to),
-        Token::Withdraw { from, to } => put_pair(line, PairWord::Withdraw, from, to),
-        Token::May { card, code } => put_pair(line, PairWord::May, card, code),
-        Token::Box { mark } => put_box(line, mark),
-        Token::Send => {
-            put_parts(line, &write_word(Word::Send), b"      ", b"      ");
-            Ok(())
-        }
-    }
-}
-
-// Four fields of six bytes, one after the other.
-fn put_fields(line: &mut [u8], a: &[u8], b: &[u8], c: &[u8], d: &[u8])
-    requires { (length line.old ≡ 24) × ((length a.now ≡ 6) × ((length b.now ≡ 6) × ((length c.now ≡ 6) × (length d.now ≡ 6)))) }
-    ensures { line.new ≡ a.now ++ (b.now ++ (c.now ++ d.now)) }
-{
-    line[0..6].copy_from_slice(a);
-    line[6..12].copy_from_slice(b);
-    line[12..18].copy_from_slice(c);
-    line[18..24].copy_from_slice(d);
+    line.copy_from_slice(&line_of(token)?);
+    Ok(())
 }
 
 // Fills the 24 bytes of `line` with four numbers of six columns each, or refuses and leaves them as they are.
@@ -113,15 +86,7 @@ pub fn columns(numbers: [u32; 4], line: &mut [u8]) -> Result<(), Refusal>
         return Err(Refusal::WrongLength);
     }
     let [a, b, c, d] = numbers;
-    if a > LARGEST || b > LARGEST || c > LARGEST || d > LARGEST {
-        return Err(Refusal::BadField);
-    }
-    put_fields(
-        line,
-        &six_columns(a),
-        &six_columns(b),
-        &six_columns(c),
-        &six_columns(d),
-    );
+    let fields = [field_of(a)?, field_of(b)?, field_of(c)?, field_of(d)?];
+    line.copy_from_slice(fields.as_flattened());
     Ok(())
 }

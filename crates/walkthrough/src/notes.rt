@@ -1,20 +1,6 @@
 use answers::Refusal;
 use std::io;
 
-// Why a request was refused.
-fn reason(refusal: Refusal) -> &'static str {
-    match refusal {
-        Refusal::NoSuchRole => "there is no such role",
-        Refusal::Circular => "the two are one role, or the junior is over the senior already",
-        Refusal::PairsFull => "there are 128 pairs already",
-        Refusal::SeniorTaken => "the junior has a direct senior already",
-        Refusal::BadSet => "a set has 2 to 8 different roles and a bound from 2 to its size",
-        Refusal::SetsFull => "there are 8 sets already",
-        // what is no refusal of a draft does not come up here
-        _ => "it is refused",
-    }
-}
-
 // Notes what was asked of a draft and what it answered; `meaning` says what that does where it is accepted.
 pub fn note(
     rt: &HostRuntime,
@@ -26,8 +12,7 @@ pub fn note(
         Ok(()) => println!(rt; "  {asked}: accepted; {meaning}"),
         Err(refusal) => {
             let number = refusal.number();
-            let why = reason(refusal);
-            println!(rt; "  {asked}: refused, {number}: {why}")
+            println!(rt; "  {asked}: refused, {number}: {refusal}")
         }
     }
 }
