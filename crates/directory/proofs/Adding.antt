@@ -4,10 +4,13 @@ use Rattle.std.specs.List.{AllByRecursion}
 use Rattle.std.proofs.lemmas.List.{take_more, length-take-le}
 use Rattle.std.proofs.ByRecursion.{All-get_or}
 use Rattle.std.proofs.lemmas.Bool.{and_from, not_from_false, ne_eqb, lt-ltb, le-leb}
-use Rattle.offices.specs.Model.{SetModel, Shaped, bound_at}
-use Rattle.offices.specs.Drafting.{Answer, missing, all_differ, all_below, good_set, set_answer, with_set}
+use Rattle.offices.specs.Bases.{base_roles, base_sets, office_with}
+use Rattle.offices.specs.Model.{SetModel, OfficeModel, Lawful, Shaped, bound_at}
+use Rattle.offices.specs.declared.base.OfficeBase.{OfficeBase}
+use Rattle.offices.specs.Drafting.{Answer, missing, all_differ, all_below, good_set, set_answer, after_set}
 use Rattle.offices.proofs.SetShape.{answer_ok}
 use Rattle.law.specs.Roles.{no_set}
+use Rattle.directory.specs.Heard.{first_sets}
 use Rattle.directory.specs.SetWords.{members_at}
 use Rattle.directory.proofs.Membership.{bound_get_or}
 
@@ -38,19 +41,17 @@ module _ (n : ℕ) (s : SetModel) (h : Shaped n s) where
   accepted : (own : List SetModel) → length own < 8 → set_answer n own s.members s.bound ≡ Ok tt
   accepted own room = sym (answer_ok n own s.members s.bound room good (below_from n s.members h.exist))
 
--- set k after those before it
-module _ (n : ℕ) (sets : List SetModel) (shaped : AllByRecursion (Shaped n) sets) (eight : length sets ≤ 8) (k : ℕ) (there : k < length sets) where
-  pub set_added : (roles : ℕ) (own after : List SetModel) (ms : List ℕ) (t : ℕ) (r : Answer) → roles ≡ n → own ≡ take k sets → ms ≡ members_at sets k → t ≡ bound_at sets k → r ≡ set_answer roles own ms t → after ≡ with_set r own ms t → after ≡ take (k + 1) sets
-  set_added roles own after ms t r er eo em et answer e =
-      let s = get_or sets k no_set in
-      let bound : t ≡ s.bound = et ∙ bound_get_or sets k in
-      let few : length own ≡ k = ap length eo ∙ length-take-le k sets (omega arith) in
-      let ok : r ≡ Ok tt = answer
-      ∙ ap (λ x. set_answer x own ms t) er
-      ∙ ap₂ (λ xs x. set_answer n own xs x) em bound
-      ∙ accepted n s (All-get_or (Shaped n) sets k no_set there shaped) own (omega arith) in
-      e
-      ∙ ap (λ (x : Answer). with_set x own ms t) ok
-      ∙ ap (λ (xs : List SetModel). xs ++ (record { members = ms; bound = t } ∷ [])) eo
-      ∙ ap₂ (λ xs x. take k sets ++ (record { members = xs; bound = x } ∷ [])) em bound
-      ∙ sym (take_more sets k no_set there)
+-- set k of an office, after those before it
+module _ (m : OfficeModel) (law : Lawful m) (k : ℕ) (there : k < length m.sets) (b : OfficeBase) (before : office_with b m.over ≡ first_sets k m) (ms : List ℕ) (members : ms ≡ members_at m.sets k) (t : ℕ) (bound : t ≡ bound_at m.sets k) where
+  pub set_accepted : set_answer (base_roles b) (base_sets b) ms t ≡ Ok tt
+  set_accepted =
+      let few : length (take k m.sets) ≡ k = length-take-le k m.sets (omega arith) in
+      ap (λ (x : OfficeModel). set_answer x.roles x.sets ms t) before
+      ∙ ap₂ (λ xs x. set_answer m.roles (take k m.sets) xs x) members (bound ∙ bound_get_or m.sets k)
+      ∙ accepted m.roles (get_or m.sets k no_set) (All-get_or (Shaped m.roles) m.sets k no_set there law.shaped) (take k m.sets) (omega (arith, law.eight))
+
+  pub set_added : after_set (Ok tt) (office_with b m.over) ms t ≡ first_sets (k + 1) m
+  set_added =
+      ap (λ x. after_set (Ok tt) x ms t) before
+      ∙ ap₂ (λ xs x. after_set (Ok tt) (first_sets k m) xs x) members (bound ∙ bound_get_or m.sets k)
+      ∙ ap (λ (xs : List SetModel). record { roles = m.roles; over = m.over; shared = m.shared; sets = xs }) (sym (take_more m.sets k no_set there))

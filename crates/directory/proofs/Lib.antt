@@ -3,3 +3,4 @@ pub mod Membership
 pub mod Marking
 pub mod Adding
 pub mod Listing
+pub mod Rows

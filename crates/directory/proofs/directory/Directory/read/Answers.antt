@@ -1,5 +1,6 @@
-use Rattle.std.proofs.Common.{◌<◌, length, vec_items, sym, ◌∙◌, subst, arith}
+use Rattle.std.proofs.Common.{◌<◌, length, vec_items, sym, ◌∙◌, ap₂, subst, arith}
 use Rattle.std.proofs.lemmas.List.{take_all}
+use Rattle.banks.specs.Banks.{office_at}
 use Rattle.law.specs.Roles.{LawfulBank}
 use Rattle.directory.specs.Heard.{heard}
 use Rattle.directory.proofs.Listing.{entered_more}
@@ -14,7 +15,7 @@ loop-office-preserved g c =
     let o = c.loop-office.office in
     let there : o < length bank = omega (arith, c.office_count-count.ensures) in
     let push = c.in_ok-push.ensures in (
-      entered_more bank o (vec_items c.loop-office.entries) (vec_items c.push.new.self) c.read.result there c.loop-office.invariant.0 push.items c.read.ensures,
+      entered_more bank o (vec_items c.loop-office.entries) (vec_items c.push.new.self) c.read.result there c.loop-office.invariant.0 push.items (c.read.ensures ∙ ap₂ (λ b n. office_at (g.B.Bank.offices b) n) c.new.ensures.bank c.new.ensures.number),
       omega (arith, push.len, c.loop-office.invariant.1),
     )
 
