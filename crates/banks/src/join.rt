@@ -37,8 +37,7 @@ impl<B: Bank, O: Office> Bank for Join<B, O> {
     ghost lawful = { λ x k. lawful_with (B.offices x.bank) (O.model x.last) (B.heard x.bank) (B.lawful x.bank) (O.lawful x.last) k };
 
     fn office_count(&self) -> u8 {
-        let count = self.bank.office_count();
-        if count < 16 { count + 1 } else { 16 }
+        (self.bank.office_count() + 1).min(16)
     }
 
     fn role_count(&self, office: u8) -> u8 {

@@ -28,10 +28,18 @@ impl Directory {
     }
 
     // The entry of an office, where there is such an office.
-    fn entry(&self, office: u32) -> Option<&OfficeEntry>
+    fn entry(&self, office: u8) -> Option<&OfficeEntry>
         ensures { MatchOption result (office_at (heard self.now) office ≡ no_office) (λ e. office_at (heard self.now) office ≡ entry_model e.now) }
     {
-        self.entries.get(office as usize)
+        self.entries.get(usize::from(office))
+    }
+
+    // The entry of the office that a role of this code has, where there is one, and the role's number there.
+    fn entry_of(&self, code: u32) -> Option<(&OfficeEntry, u8)>
+        ensures { MatchOption result (office_at (heard self.now) (office_of code) ≡ no_office) (λ e. (office_at (heard self.now) (office_of code) ≡ entry_model e.0.now) × (e.1 ≡ role_of code)) }
+    {
+        let entry = self.entry(u8::try_from(code / 64).ok()?)?;
+        Some((entry, (code % 64) as u8))
     }
 
     pub fn office_count(&self) -> u8
@@ -44,53 +52,58 @@ impl Directory {
     pub fn role_count(&self, office: u8) -> u8
         ensures { result ≡ (office_at (heard self.now) office).roles }
     {
-        self.entry(u32::from(office)).map_or(0, |entry| entry.base.role_count())
+        self.entry(office)
+            .map_or(0, |entry| entry.base.role_count())
     }
 
     // Whether a role has this code.
     pub fn has_role(&self, code: u32) -> bool
         ensures { result ≡ nat_lt (role_of code) (office_at (heard self.now) (office_of code)).roles }
     {
-        self.entry(code / 64).is_some_and(|entry| code % 64 < u32::from(entry.base.role_count()))
+        self.entry_of(code)
+            .is_some_and(|(entry, role)| role < entry.base.role_count())
     }
 
     // Whether a role has this code and is shared.
     pub fn is_shared(&self, code: u32) -> bool
         ensures { result ≡ (office_at (heard self.now) (office_of code)).shared (role_of code) }
     {
-        self.entry(code / 64).is_some_and(|entry| entry.base.is_shared((code % 64) as u8))
+        self.entry_of(code)
+            .is_some_and(|(entry, role)| entry.base.is_shared(role))
     }
 
     // The roles of its own office that the role with this code is over.
     pub fn juniors(&self, code: u16) -> RoleSet
         ensures { (i : ℕ) → holds result i ≡ (office_at (heard self.now) (office_of code)).over (role_of code) i }
     {
-        self.entry(u32::from(code / 64))
-            .map_or(RoleSet::empty(), |entry| entry.juniors_of((code % 64) as u8))
+        self.entry_of(u32::from(code))
+            .map_or(RoleSet::empty(), |(entry, role)| entry.juniors_of(role))
     }
 
     pub fn set_count(&self, office: u8) -> u8
         ensures { result ≡ length (office_at (heard self.now) office).sets }
     {
-        self.entry(u32::from(office)).map_or(0, |entry| entry.base.set_count())
+        self.entry(office).map_or(0, |entry| entry.base.set_count())
     }
 
     pub fn set_bound(&self, office: u8, set: u8) -> u8
         ensures { result ≡ bound_at (office_at (heard self.now) office).sets set }
     {
-        self.entry(u32::from(office)).map_or(0, |entry| entry.base.set_bound(set))
+        self.entry(office)
+            .map_or(0, |entry| entry.base.set_bound(set))
     }
 
     pub fn set_member(&self, office: u8, set: u8, place: u8) -> Option<u8>
         ensures { result ≡ member_at (office_at (heard self.now) office).sets set place }
     {
-        self.entry(u32::from(office))?.base.set_member(set, place)
+        self.entry(office)?.base.set_member(set, place)
     }
 
     // The members of a set.
     pub fn set_roles(&self, office: u8, set: u8) -> RoleSet
         ensures { (i : ℕ) → holds result i ≡ among i (set_at (heard self.now) office set).members }
     {
-        self.entry(u32::from(office)).map_or(RoleSet::empty(), |entry| entry.members_of(set))
+        self.entry(office)
+            .map_or(RoleSet::empty(), |entry| entry.members_of(set))
     }
 }
