@@ -4,3 +4,4 @@ pub mod Marking
 pub mod Adding
 pub mod Listing
 pub mod Rows
+pub mod Collecting

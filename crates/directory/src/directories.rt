@@ -19,11 +19,9 @@ impl Directory {
         ensures heard { IfOk result (λ d. heard d ≡ B.offices bank.now) }
         ensures lawful { IfOk result (λ d. LawfulBank (heard d)) }
     {
-        let count = bank.office_count();
-        let mut entries = Vec::with_capacity(heap, count as usize)?;
-        for office in 0..count {
-            entries.push(OfficeEntry::read(&OfficeAt::new(bank, office)))?;
-        }
+        let entries = (0..bank.office_count())
+            .map(|office| OfficeEntry::read(&OfficeAt::new(bank, office)))
+            .collect(heap)?;
         Ok(Directory { entries })
     }
 
