@@ -5,3 +5,4 @@ pub mod Adding
 pub mod Listing
 pub mod Rows
 pub mod Collecting
+pub mod Folding

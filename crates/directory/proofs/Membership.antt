@@ -63,3 +63,11 @@ place_among i (x ∷ xs) h = ⊎_elim
     (λ (e : eqb i x ≡ true). (0, omega arith, sym (eqb-true i x e)))
     (λ (e : among i xs ≡ true). let q = place_among i xs e in (suc q.0, omega (arith, q.1), q.2))
     (or_cases (eqb i x) (among i xs) h)
+
+-- what is among numbers below n is below n
+pub among_below : (n : ℕ) (xs : List ℕ) → AllByRecursion (λ r. r < n) xs → (i : ℕ) → among i xs ≡ true → i < n
+among_below n [] a i h = absurd (false≢true h)
+among_below n (x ∷ xs) a i h = ⊎_elim
+    (λ (e : eqb i x ≡ true). let same = eqb-true i x e in omega (arith, a.0))
+    (λ (e : among i xs ≡ true). among_below n xs a.1 i e)
+    (or_cases (eqb i x) (among i xs) h)

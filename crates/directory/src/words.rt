@@ -10,11 +10,9 @@ use std::array;
 fn word_of<O: Office>(office: &O, set: u8) -> RoleSet
     ensures { (i : ℕ) → holds result i ≡ among i (members_at (O.model office.now).sets set) }
 {
-    let mut word = RoleSet::empty();
-    for role in members_of(office, set).iter() {
-        word = word.with(*role);
-    }
-    word
+    members_of(office, set)
+        .iter()
+        .fold(RoleSet::empty(), |word, role| word.with(*role))
 }
 
 // The members of each set.
