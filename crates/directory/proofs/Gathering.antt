@@ -1,7 +1,10 @@
 -- What has a property, gathered number by number.
-use Rattle.std.proofs.Common.{◌≡◌, ℕ, ◌+◌, ◌<◌, ◌≤◌, Bool, true, false, ◌&&◌, ◌||◌, eqb, ltb, sym, ap, ◌∙◌, ap₂, ⊎_elim, arith}
+use Rattle.std.proofs.Common.{filter, List, [], ◌∷◌, zero, suc, ◌≡◌, ℕ, ◌+◌, ◌<◌, ◌≤◌, Bool, true, false, ◌&&◌, ◌||◌, eqb, ltb, sym, ap, ◌∙◌, ap₂, ⊎_elim, arith}
 use Rattle.std.proofs.lemmas.Bool.{cases_order, cases_lt, cases_Bool, lt-ltb, le-ltb, eq-eqb, ne_eqb}
-use Rattle.offices.proofs.Bit.{or_false}
+use Rattle.std.proofs.lemmas.Grind.{common_steps}
+use Rattle.std.specs.List.{range_with_len}
+use Rattle.offices.proofs.Bit.{or_false, and_false}
+use Rattle.directory.specs.SetWords.{among}
 
 -- below j and with the property, at j + 1 as at j
 pub same_below : (f : ℕ → Bool) (j i : ℕ) → (i ≡ j → ⊥) → (ltb i j && f i) ≡ (ltb i (j + 1) && f i)
@@ -34,3 +37,15 @@ gathered_all f n small i = ⊎_elim
     (λ (l : i < n). ap (λ x. x && f i) (lt-ltb i n l))
     (λ (l : n ≤ i). ap (λ x. x && f i) (le-ltb i n l) ∙ sym (⊎_elim (λ (t : f i ≡ true). let s = small i t in absurd (omega arith)) (λ (t : f i ≡ false). t) (cases_Bool (f i))))
     (cases_lt i n)
+
+among_filter : (f : ℕ → Bool) (i : ℕ) (xs : List ℕ) → among i (filter f xs) ≡ (f i && among i xs)
+among_filter f i [] = sym (and_false (f i))
+among_filter f i (x ∷ xs) = grind (arith, common_steps, among_filter f i xs)
+
+among_range : (i a n : ℕ) → a ≤ i → i < a + n → among i (range_with_len a n) ≡ true
+among_range i a zero l h = absurd (omega arith)
+among_range i a (suc n) l h = grind (arith, common_steps, among_range i (a + 1) n)
+
+-- the numbers below n with a property that none from n on has
+pub among_filtered : (f : ℕ → Bool) (n : ℕ) → n ≤ 64 → ((i : ℕ) → f i ≡ true → i < n) → (i : ℕ) → (ltb i 64 && among i (filter f (range_with_len 0 n))) ≡ f i
+among_filtered f n few small i = grind (arith, common_steps, among_filter f i (range_with_len 0 n), small i, among_range i 0 n)

@@ -8,13 +8,9 @@ use std::array;
 fn juniors_of<O: Office>(office: &O, senior: u8) -> RoleSet
     ensures { (i : ℕ) → holds result i ≡ (O.model office.now).over senior i }
 {
-    let mut juniors = RoleSet::empty();
-    for junior in 0..office.role_count() {
-        if office.is_over(senior, junior) {
-            juniors = juniors.with(junior);
-        }
-    }
-    juniors
+    (0..office.role_count())
+        .filter(|junior| office.is_over(senior, *junior))
+        .fold(RoleSet::empty(), RoleSet::with)
 }
 
 // For each role the roles that it is over.

@@ -1,5 +1,5 @@
-use Rattle.std.proofs.Common.{◌≡◌, ◌<◌, true, ap, ◌∙◌, arith, rules}
-use Rattle.std.proofs.lemmas.Fn.{fronts, slice_gives}
+use Rattle.std.proofs.Common.{◌≡◌, ◌<◌, true, ◌∙◌, arith, rules}
+use Rattle.std.proofs.lemmas.Iterator.{YieldsList-from_slice}
 use Rattle.directory.specs.SetWords.{among, members_at}
 use Rattle.directory.proofs.Folding.{roles_folded}
 use Rattle.directory.proofs.Gathering.{gathered_all}
@@ -11,8 +11,7 @@ returns g c i =
     let m = g.O.Office.model c.args.office.now in
     let law = g.met.O.Office.lawful c.args.office.now in
     let ms = members_at m.sets c.args.set in
-    let same = c.iter.ensures.rest ∙ c.deref.ensures.0 ∙ c.members_of.ensures in
+    let chain = YieldsList-from_slice {s = c.iter.result} ms (c.iter.ensures.rest ∙ c.deref.ensures.0 ∙ c.members_of.ensures) in
     let exist = members_exist m.roles m.sets law.shaped c.args.set in
-    roles_folded fronts (λ y. y.now) _ _ c.iter.result _ _ _ c.fold.ensures.ran (slice_gives c.iter.result) c.empty.ensures (λ w x b q k. search rules) i
-    ∙ gathered_all (λ j. among j c.iter.result.rest.now) 64 (λ j h. let e : among j ms ≡ true = cc in let l = among_below m.roles ms exist j e in omega (arith, law.few)) i
-    ∙ ap (among i) same
+    roles_folded _ _ _ _ _ _ _ _ c.fold.ensures.ran chain c.empty.ensures (λ w x b q k. search rules) i
+    ∙ gathered_all (λ j. among j ms) 64 (λ j h. let l = among_below m.roles ms exist j h in omega (arith, law.few)) i
