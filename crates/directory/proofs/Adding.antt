@@ -1,5 +1,5 @@
 -- A lawful set is accepted.
-use Rattle.std.proofs.Common.{◌≡◌, ℕ, suc, ◌+◌, ◌<◌, ◌≤◌, true, not, eqb, ltb, leb, List, [], ◌∷◌, ◌++◌, length, get_or, take, Ok, sym, refl, ap, ◌∙◌, ap₂, arith}
+use Rattle.std.proofs.Common.{◌≡◌, ℕ, suc, ◌+◌, ◌<◌, true, not, eqb, ltb, leb, List, [], ◌∷◌, length, get_or, take, Ok, sym, refl, ap, ◌∙◌, ap₂, arith}
 use Rattle.std.specs.List.{AllByRecursion}
 use Rattle.std.proofs.lemmas.List.{take_more, length-take-le}
 use Rattle.std.proofs.ByRecursion.{All-get_or}
@@ -7,7 +7,7 @@ use Rattle.std.proofs.lemmas.Bool.{and_from, not_from_false, ne_eqb, lt-ltb, le-
 use Rattle.offices.specs.Bases.{base_roles, base_sets, office_with}
 use Rattle.offices.specs.Model.{SetModel, OfficeModel, Lawful, Shaped, bound_at}
 use Rattle.offices.specs.declared.base.OfficeBase.{OfficeBase}
-use Rattle.offices.specs.Drafting.{Answer, missing, all_differ, all_below, good_set, set_answer, after_set}
+use Rattle.offices.specs.Drafting.{missing, all_differ, all_below, good_set, set_answer, after_set}
 use Rattle.offices.proofs.SetShape.{answer_ok}
 use Rattle.law.specs.Roles.{no_set}
 use Rattle.directory.specs.Heard.{first_sets}

@@ -1,5 +1,5 @@
 -- The entries of a bank's offices, collected.
-use Rattle.std.proofs.Common.{◌≡◌, ℕ, ◌-◌, List, length, map, Ok, Vec, vec_items, Result, IfOk, sym, refl, ◌∙◌, subst, arith}
+use Rattle.std.proofs.Common.{◌≡◌, ℕ, List, length, map, Ok, Vec, vec_items, Result, IfOk, sym, refl, ◌∙◌, subst, arith}
 use Rattle.std.specs.Fn.{Called}
 use Rattle.std.specs.Iterator.Adapters.{map_source, map_callee}
 use Rattle.std.specs.List.{range_with_len}

@@ -1,10 +1,9 @@
-use Rattle.std.proofs.Common.{◌≡◌, ℕ, ◌<◌, ◌≤◌, List, length, get_or, Some, None, Option, ap, sym, ◌∙◌, Bor, MatchOption, false}
+use Rattle.std.proofs.Common.{◌≡◌, ℕ, ◌<◌, ◌≤◌, List, length, Some, None, Option, ap, sym, ◌∙◌, Bor, MatchOption, false}
 use Rattle.std.specs.List.{HoldsAt}
 use Rattle.std.specs.Option.{option_copied, unwrap_or}
 use Rattle.offices.specs.Members.{holds, row_holds}
 use Rattle.offices.specs.declared.role_set.RoleSet.{RoleSet}
 use Rattle.offices.proofs.RowFacts.{row_past}
-use Rattle.offices.proofs.Bit.{bit_none}
 use Rattle.directory.proofs.entries.row.Goals as goal
 
 found : (rows : List RoleSet) (k : ℕ) (r : Option (Bor RoleSet)) (blank : RoleSet) → ((i : ℕ) → holds blank i ≡ false) → MatchOption r (length rows ≤ k) (λ x. (k < length rows) × HoldsAt (λ y. x.now ≡ y) rows k) → (i : ℕ) → holds (unwrap_or (option_copied r) blank) i ≡ row_holds rows k i

@@ -1,11 +1,11 @@
-use Rattle.std.proofs.Common.{◌≡◌, ◌+◌, sym, refl, ap, ◌∙◌, arith}
+use Rattle.std.proofs.Common.{sym, refl, ap, ◌∙◌, arith}
 use mathlib.Core.Path.{fun_ext}
 use Rattle.offices.specs.Bases.{office_with}
 use Rattle.offices.specs.Model.{OfficeModel}
 use Rattle.offices.specs.declared.base.OfficeBase.{OfficeBase}
-use Rattle.directory.proofs.Gathering.{gathered_none, gathered_all}
+use Rattle.directory.proofs.Gathering.{gathered_none}
 use Rattle.directory.proofs.Listing.{same_model}
-use Rattle.directory.proofs.Marking.{with_marks, first_marks, marked_more, marked_same}
+use Rattle.directory.proofs.Marking.{first_marks, marked_more, marked_same}
 use Rattle.directory.proofs.marks.marked_base.Goals as goal
 use Rattle.directory.proofs.marks.marked_base.Goals.{then-is_shared+in-Ok, else-is_shared}
 

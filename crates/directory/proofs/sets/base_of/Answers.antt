@@ -1,4 +1,4 @@
-use Rattle.std.proofs.Common.{◌≡◌, ◌<◌, ◌≤◌, length, sym, ap, ◌∙◌, arith}
+use Rattle.std.proofs.Common.{◌<◌, length, ◌∙◌, arith}
 use Rattle.directory.proofs.Adding.{set_accepted, set_added}
 use Rattle.directory.proofs.sets.base_of.Goals as goal
 

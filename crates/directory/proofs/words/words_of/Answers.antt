@@ -1,4 +1,4 @@
-use Rattle.std.proofs.Common.{◌≤◌, ap, arith, rules}
+use Rattle.std.proofs.Common.{ap, arith, rules}
 use Rattle.std.proofs.lemmas.List.{get_or_past}
 use Rattle.law.specs.Roles.{no_set}
 use Rattle.directory.specs.SetWords.{among, members_at}
