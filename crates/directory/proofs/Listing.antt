@@ -63,11 +63,3 @@ module _ (d : Directory) where
 
 pub same_model : (b : OfficeBase) (over : ℕ → ℕ → Bool) (m : OfficeModel) → base_roles b ≡ m.roles → over ≡ m.over → base_shared b ≡ m.shared → base_sets b ≡ m.sets → office_with b over ≡ m
 same_model b over m p q r s = λ i. record { roles = p i; over = q i; shared = r i; sets = s i }
-
--- one entry more, of office o
-pub entered_more : (bank : List OfficeModel) (o : ℕ) (items after : List OfficeEntry) (e : OfficeEntry) → o < length bank → map entry_model items ≡ take o bank → after ≡ items ++ (e ∷ []) → entry_model e ≡ office_at bank o → map entry_model after ≡ take (o + 1) bank
-entered_more bank o items after e there before more is =
-    ap (map entry_model) more
-    ∙ map_push entry_model items e
-    ∙ ap₂ (λ xs x. xs ++ (x ∷ [])) before is
-    ∙ sym (take_more bank o no_office there)
