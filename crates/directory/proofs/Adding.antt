@@ -1,9 +1,9 @@
 -- A lawful set is accepted.
-use Rattle.std.proofs.Common.{◌≡◌, ℕ, suc, ◌+◌, ◌<◌, true, not, eqb, ltb, leb, List, [], ◌∷◌, length, get_or, take, Ok, sym, refl, ap, ◌∙◌, ap₂, arith}
+use Rattle.std.proofs.Common.{◌≡◌, ℕ, suc, ◌+◌, ◌<◌, true, List, [], ◌∷◌, length, get_or, take, Ok, sym, refl, ap, ◌∙◌, ap₂, arith}
 use Rattle.std.specs.List.{AllByRecursion}
 use Rattle.std.proofs.lemmas.List.{take_more, length-take-le}
+use Rattle.std.proofs.lemmas.Grind.{common_steps}
 use Rattle.std.proofs.ByRecursion.{All-get_or}
-use Rattle.std.proofs.lemmas.Bool.{and_from, not_from_false, ne_eqb, lt-ltb, le-leb}
 use Rattle.offices.specs.Bases.{base_roles, base_sets, office_with}
 use Rattle.offices.specs.Model.{SetModel, OfficeModel, Lawful, Shaped, bound_at}
 use Rattle.offices.specs.declared.base.OfficeBase.{OfficeBase}
@@ -17,26 +17,24 @@ use Rattle.directory.proofs.Membership.{bound_get_or}
 missing_from : (x : ℕ) (xs : List ℕ) → ((i : ℕ) → i < length xs → get_or xs i 0 ≡ x → ⊥) → missing x xs ≡ true
 missing_from x [] h = refl
 missing_from x (y ∷ ys) h =
-    and_from (not (eqb y x)) (missing x ys) (not_from_false (eqb y x) (ne_eqb y x (h 0 (omega arith)))) (missing_from x ys (λ i l. h (suc i) (omega arith)))
+    let rest = missing_from x ys (λ i l. h (suc i) (omega arith)) in
+    let here = h 0 (omega arith) in
+    grind (arith, common_steps)
 
 differ_from : (xs : List ℕ) → ((p q : ℕ) → p < length xs → q < length xs → get_or xs p 0 ≡ get_or xs q 0 → p ≡ q) → all_differ xs ≡ true
 differ_from [] h = refl
 differ_from (x ∷ xs) h =
-    and_from (missing x xs) (all_differ xs)
-    (missing_from x xs (λ i l e. let z : suc i ≡ 0 = h (suc i) 0 (omega arith) (omega arith) e in omega arith))
-    (differ_from xs (λ p q l k e. let z : suc p ≡ suc q = h (suc p) (suc q) (omega arith) (omega arith) e in omega arith))
+    let first = missing_from x xs (λ i l e. let z : suc i ≡ 0 = h (suc i) 0 (omega arith) (omega arith) e in omega arith) in
+    let rest = differ_from xs (λ p q l k e. let z : suc p ≡ suc q = h (suc p) (suc q) (omega arith) (omega arith) e in omega arith) in
+    grind (arith, common_steps)
 
 below_from : (n : ℕ) (xs : List ℕ) → AllByRecursion (λ r. r < n) xs → all_below n xs ≡ true
 below_from n [] h = refl
-below_from n (x ∷ xs) h = and_from (ltb x n) (all_below n xs) (lt-ltb x n h.0) (below_from n xs h.1)
+below_from n (x ∷ xs) h = grind (arith, common_steps, below_from n xs h.1, h.0)
 
 module _ (n : ℕ) (s : SetModel) (h : Shaped n s) where
   good : good_set s.members s.bound ≡ true
-  good =
-      and_from (leb 2 (length s.members)) _ (le-leb 2 (length s.members) h.least)
-      (and_from (leb (length s.members) 8) _ (le-leb (length s.members) 8 h.most)
-      (and_from (leb 2 s.bound) _ (le-leb 2 s.bound h.low)
-      (and_from (leb s.bound (length s.members)) _ (le-leb s.bound (length s.members) h.high) (differ_from s.members h.differ))))
+  good = let differ = differ_from s.members h.differ in grind (arith, common_steps)
 
   accepted : (own : List SetModel) → length own < 8 → set_answer n own s.members s.bound ≡ Ok tt
   accepted own room = sym (answer_ok n own s.members s.bound room good (below_from n s.members h.exist))

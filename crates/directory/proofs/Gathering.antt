@@ -1,9 +1,8 @@
 -- What has a property, gathered number by number.
-use Rattle.std.proofs.Common.{filter, List, [], ◌∷◌, zero, suc, ◌≡◌, ℕ, ◌+◌, ◌<◌, ◌≤◌, Bool, true, false, ◌&&◌, ◌||◌, eqb, ltb, sym, ap, ◌∙◌, ap₂, ⊎_elim, arith}
-use Rattle.std.proofs.lemmas.Bool.{cases_order, cases_lt, cases_Bool, lt-ltb, le-ltb, eq-eqb, ne_eqb}
+use Rattle.std.proofs.Common.{filter, List, [], ◌∷◌, zero, suc, ◌≡◌, ℕ, ◌+◌, ◌<◌, ◌≤◌, Bool, true, false, ◌&&◌, ◌||◌, eqb, ltb, sym, arith}
 use Rattle.std.proofs.lemmas.Grind.{common_steps}
 use Rattle.std.specs.List.{range_with_len}
-use Rattle.offices.proofs.Bit.{or_false, and_false}
+use Rattle.offices.proofs.Bit.{and_false}
 use Rattle.directory.specs.SetWords.{among}
 
 -- what is below j + 1 with the property is below j, or j itself where it has it

@@ -1,9 +1,9 @@
 -- The offices of a directory: each is lawful, and there are at most sixteen.
-use Rattle.std.proofs.Common.{◌≡◌, ℕ, zero, suc, ◌+◌, ◌<◌, ◌≤◌, Bool, List, [], ◌∷◌, ◌++◌, map, length, get_or, take, Some, None, vec_items, vec_len, Option, sym, ap, ◌∙◌, ap₂, arith, Bor, MatchOption}
+use Rattle.std.proofs.Common.{◌≡◌, ℕ, zero, suc, ◌<◌, ◌≤◌, Bool, List, [], ◌∷◌, map, length, get_or, Some, None, vec_items, vec_len, Option, sym, ap, ◌∙◌, arith, Bor, MatchOption}
 use mathlib.Core.Logic.{∥∥₁_elim}
 use denote.Struct.Props.{props}
 use Rattle.std.specs.List.{HoldsAt}
-use Rattle.std.proofs.lemmas.List.{length-map, map_push, take_more, get_or-map, get_or_past}
+use Rattle.std.proofs.lemmas.List.{length-map, get_or-map, get_or_past}
 use Rattle.offices.specs.Bases.{base_roles, base_sets, base_shared, office_with}
 use Rattle.offices.specs.Members.{row_holds}
 use Rattle.offices.specs.Model.{SetModel, OfficeModel, Lawful}

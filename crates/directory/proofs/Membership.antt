@@ -1,11 +1,10 @@
 -- The members of the sets of an office.
-use Rattle.std.proofs.Common.{◌≡◌, ℕ, zero, suc, ◌<◌, ◌≤◌, Bool, true, false, ◌||◌, eqb, List, [], ◌∷◌, ◌++◌, length, get_or, Some, None, sym, refl, ap, ◌∙◌, ⊎_elim, arith}
+use Rattle.std.proofs.Common.{◌≡◌, ℕ, zero, suc, ◌<◌, ◌≤◌, true, ◌||◌, eqb, List, [], ◌∷◌, ◌++◌, length, get_or, Some, None, sym, refl, ⊎_elim, arith}
 use Rattle.std.specs.List.{slice_get, AllByRecursion}
 use Rattle.std.proofs.lemmas.Grind.{common_steps}
 use Rattle.std.proofs.lemmas.Option.{slice_get-get_or, slice_get_past}
-use Rattle.std.proofs.lemmas.Bool.{cases_lt, false≢true, or_left, or_right, or_cases, eq-eqb, eqb-true}
+use Rattle.std.proofs.lemmas.Bool.{false≢true, or_cases, eqb-true}
 use Rattle.offices.specs.Model.{SetModel, Shaped, bound_at, member_at}
-use Rattle.offices.proofs.Bit.{or_false}
 use Rattle.law.specs.Roles.{no_set}
 use Rattle.directory.specs.SetWords.{among, members_at}
 
@@ -40,8 +39,8 @@ among_push i (x ∷ xs) y = grind (arith, common_steps, among_push i xs y)
 -- what stands at a place is a member, and a member stands at a place
 pub among_at : (xs : List ℕ) (p : ℕ) → p < length xs → among (get_or xs p 0) xs ≡ true
 among_at [] p l = absurd (omega arith)
-among_at (x ∷ xs) zero l = or_left (eqb x x) (among x xs) (eq-eqb x x refl)
-among_at (x ∷ xs) (suc p) l = or_right (eqb (get_or xs p 0) x) (among (get_or xs p 0) xs) (among_at xs p (omega arith))
+among_at (x ∷ xs) zero l = grind (arith, common_steps)
+among_at (x ∷ xs) (suc p) l = grind (arith, common_steps, among_at xs p)
 
 pub place_among : (i : ℕ) (xs : List ℕ) → among i xs ≡ true → (p : ℕ) × (p < length xs) × (get_or xs p 0 ≡ i)
 place_among i [] h = absurd (false≢true h)
@@ -53,7 +52,4 @@ place_among i (x ∷ xs) h = ⊎_elim
 -- what is among numbers below n is below n
 pub among_below : (n : ℕ) (xs : List ℕ) → AllByRecursion (λ r. r < n) xs → (i : ℕ) → among i xs ≡ true → i < n
 among_below n [] a i h = absurd (false≢true h)
-among_below n (x ∷ xs) a i h = ⊎_elim
-    (λ (e : eqb i x ≡ true). let same = eqb-true i x e in omega (arith, a.0))
-    (λ (e : among i xs ≡ true). among_below n xs a.1 i e)
-    (or_cases (eqb i x) (among i xs) h)
+among_below n (x ∷ xs) a i h = grind (arith, common_steps, among_below n xs a.1 i, a.0)
