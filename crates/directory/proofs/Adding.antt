@@ -8,7 +8,6 @@ use Rattle.offices.specs.Bases.{base_roles, base_sets, office_with}
 use Rattle.offices.specs.Model.{SetModel, OfficeModel, Lawful, Shaped, bound_at}
 use Rattle.offices.specs.declared.base.OfficeBase.{OfficeBase}
 use Rattle.offices.specs.Drafting.{missing, all_differ, all_below, good_set, set_answer, after_set}
-use Rattle.offices.proofs.SetShape.{answer_ok}
 use Rattle.law.specs.Roles.{no_set}
 use Rattle.directory.specs.Heard.{first_sets}
 use Rattle.directory.specs.SetWords.{members_at}
@@ -37,7 +36,7 @@ module _ (n : ℕ) (s : SetModel) (h : Shaped n s) where
   good = let differ = differ_from s.members h.differ in grind (arith, common_steps)
 
   accepted : (own : List SetModel) → length own < 8 → set_answer n own s.members s.bound ≡ Ok tt
-  accepted own room = sym (answer_ok n own s.members s.bound room good (below_from n s.members h.exist))
+  accepted own room = grind (arith, common_steps, good, below_from n s.members h.exist)
 
 -- set k of an office, after those before it
 module _ (m : OfficeModel) (law : Lawful m) (k : ℕ) (there : k < length m.sets) (b : OfficeBase) (before : office_with b m.over ≡ first_sets k m) (ms : List ℕ) (members : ms ≡ members_at m.sets k) (t : ℕ) (bound : t ≡ bound_at m.sets k) where

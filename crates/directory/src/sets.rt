@@ -7,9 +7,10 @@ use arrayvec::ArrayVec;
 use offices::{Office, OfficeBase};
 
 // The members of a set, in their order.
-pub(crate) fn members_of<O: Office>(office: &O, set: u8) -> ArrayVec<u8, 8>
+pub(crate) fn listed_members<O: Office>(office: &O, set: u8) -> ArrayVec<u8, 8>
     ensures { result.items ≡ members_at (O.model office.now).sets set }
 {
+    // A loop: `map_while` and `collect` into an `ArrayVec` would give a `Result`, and there is always room.
     let mut members = ArrayVec::new();
     for place in 0..8 {
         let Some(role) = office.set_member(set, place) else {
@@ -26,7 +27,7 @@ pub(crate) fn base_of<O: Office>(office: &O) -> OfficeBase
 {
     let mut base = marked_base(office);
     for set in 0..office.set_count() {
-        let members = members_of(office, set);
+        let members = listed_members(office, set);
         let Ok(()) = base.exclude(&members, office.set_bound(set)) else {
             unreachable!();
         };

@@ -2,7 +2,7 @@ ghost use Rattle.std.specs.Prelude.{◌≡◌, ℕ};
 ghost use Rattle.directory.specs.SetWords.{among, members_at, WordsHold};
 ghost use Rattle.offices.specs.Members.{holds};
 
-use crate::sets::members_of;
+use crate::sets::listed_members;
 use offices::{Office, RoleSet};
 use std::array;
 
@@ -10,7 +10,7 @@ use std::array;
 fn word_of<O: Office>(office: &O, set: u8) -> RoleSet
     ensures { (i : ℕ) → holds result i ≡ among i (members_at (O.model office.now).sets set) }
 {
-    members_of(office, set)
+    listed_members(office, set)
         .iter()
         .fold(RoleSet::empty(), |word, role| word.with(*role))
 }

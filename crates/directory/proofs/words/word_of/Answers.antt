@@ -11,7 +11,7 @@ returns g c i =
     let m = g.O.Office.model c.args.office.now in
     let law = g.met.O.Office.lawful c.args.office.now in
     let ms = members_at m.sets c.args.set in
-    let chain = YieldsList-from_slice {s = c.iter.result} ms (c.iter.ensures.rest ∙ c.deref.ensures.0 ∙ c.members_of.ensures) in
+    let chain = YieldsList-from_slice {s = c.iter.result} ms (c.iter.ensures.rest ∙ c.deref.ensures.0 ∙ c.listed_members.ensures) in
     let exist = members_exist m.roles m.sets law.shaped c.args.set in
     roles_folded _ _ _ _ _ _ _ _ c.fold.ensures.ran chain c.empty.ensures (λ w x b q k. search rules) i
     ∙ gathered_all (λ j. among j ms) 64 (λ j h. let l = among_below m.roles ms exist j h in omega (arith, law.few)) i

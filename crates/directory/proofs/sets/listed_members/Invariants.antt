@@ -1,6 +1,6 @@
 use Rattle.std.proofs.Common.{◌≡◌, ◌≤◌, length, take}
 use Rattle.directory.specs.SetWords.{members_at}
-use Rattle.directory.proofs.sets.members_of.Given as goal
+use Rattle.directory.proofs.sets.listed_members.Given as goal
 
 abbrev pub invariant-loop-place : goal.invariant-loop-place
 invariant-loop-place g l =

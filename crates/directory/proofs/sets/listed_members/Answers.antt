@@ -2,7 +2,7 @@ use Rattle.std.proofs.Common.{[], ◌∷◌, ◌++◌, take, sym, ap, ◌∙◌,
 use Rattle.std.proofs.lemmas.List.{take_all, take_more}
 use Rattle.directory.specs.SetWords.{members_at}
 use Rattle.directory.proofs.Membership.{member_nth, nth_some, nth_none}
-use Rattle.directory.proofs.sets.members_of.Goals as goal
+use Rattle.directory.proofs.sets.listed_members.Goals as goal
 
 pub returns-in_default : goal.returns-in_default
 returns-in_default g c =
