@@ -1,6 +1,5 @@
-use Rattle.std.proofs.Common.{sym, ap, ◌∙◌, subst}
+use Rattle.std.proofs.Common.{sym, ap, subst}
 use mathlib.Core.Path.{fun_ext}
-use Rattle.offices.specs.Bases.{office_with}
 use Rattle.offices.specs.Members.{row_holds}
 use Rattle.offices.specs.Model.{OfficeModel}
 use Rattle.offices.specs.Order.{Order}
@@ -17,7 +16,3 @@ invariant_of-result g c =
       order = ∣ subst (λ n. Order n (row_holds c.seniority_of.result)) (sym (ap (λ (x : OfficeModel). x.roles) base)) (subst (Order m.roles) (sym over) law.order) ∣₁;
       words = ∣ subst (WordsHold c.words_of.result) (sym (ap (λ (x : OfficeModel). x.sets) base)) c.words_of.ensures ∣₁;
     }
-
-pub returns : goal.returns
-returns g c =
-    ap (office_with c.base_of.result) (fun_ext (λ a. fun_ext (λ b. c.seniority_of.ensures a b))) ∙ c.base_of.ensures
