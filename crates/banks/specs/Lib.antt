@@ -1,4 +1,3 @@
 pub mod Banks
 pub mod Codes
-pub mod Seats
 pub mod Joined

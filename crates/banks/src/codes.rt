@@ -14,23 +14,15 @@ pub struct RoleAt {
 pub fn code_of<B: Bank>(bank: &B, office: u8, role: u8) -> Option<u16>
     ensures { result ≡ code_answer (B.offices bank.now) office role }
 {
-    if role >= bank.role_count(office) {
-        return None;
-    }
-    Some(office as u16 * 64 + role as u16)
+    let code = u16::from(office) * 64 + u16::from(role);
+    (role < bank.role_count(office)).then_some(code)
 }
 
 // The role that has this code.
 pub fn role_at<B: Bank>(bank: &B, code: u32) -> Option<RoleAt>
     ensures { result ≡ role_answer (B.offices bank.now) code }
 {
-    if code >= 1024 {
-        return None;
-    }
-    let office = (code / 64) as u8;
+    let office = u8::try_from(code / 64).ok()?;
     let role = (code % 64) as u8;
-    if role >= bank.role_count(office) {
-        return None;
-    }
-    Some(RoleAt { office, role })
+    (role < bank.role_count(office)).then_some(RoleAt { office, role })
 }

@@ -1,6 +1,5 @@
-ghost use Rattle.std.specs.Prelude.{◌≡◌};
-ghost use Rattle.banks.specs.Banks.{with_office};
-ghost use Rattle.banks.specs.Seats.{Seated};
+ghost use Rattle.std.specs.Prelude.{◌≡◌, if◌then◌else◌};
+ghost use Rattle.banks.specs.Banks.{office_at, with_office};
 ghost use Rattle.banks.specs.Joined.{length_heard, lawful_with};
 
 use crate::bank::Bank;
@@ -13,14 +12,6 @@ pub struct Join<B: Bank, O: Office> {
     last: O,
 }
 
-// Whose answer a joined bank gives for an office number.
-#[derive(Clone, Copy)]
-pub(crate) enum Seat {
-    Earlier,
-    Last,
-    Nobody,
-}
-
 impl<B: Bank, O: Office> Join<B, O> {
     // A seventeenth office joins too, and is not heard.
     pub fn new(bank: B, last: O) -> Join<B, O>
@@ -29,77 +20,71 @@ impl<B: Bank, O: Office> Join<B, O> {
         Join { bank, last }
     }
 
-    fn seat(&self, office: u8) -> Seat
-        ensures { Seated result (B.Bank.offices self.now.bank) (O.Office.model self.now.last) office }
+    // Whether the last office has this number. For each other number the bank before it answers: also for one that no
+    // office has.
+    fn is_last(&self, office: u8) -> bool
+        ensures { office_at (with_office (B.offices self.now.bank) (O.model self.now.last)) office ≡ (if result then O.model self.now.last else office_at (B.offices self.now.bank) office) }
     {
-        let count = self.bank.office_count();
-        if office < count {
-            Seat::Earlier
-        } else if office > count || count >= 16 {
-            Seat::Nobody
-        } else {
-            Seat::Last
-        }
+        office < 16 && office == self.bank.office_count()
     }
 }
 
 impl<B: Bank, O: Office> Bank for Join<B, O> {
-    ghost offices = { λ x. with_office (B.Bank.offices x.bank) (O.Office.model x.last) };
+    ghost offices = { λ x. with_office (B.offices x.bank) (O.model x.last) };
 
-    ghost heard = { λ x. length_heard (B.Bank.offices x.bank) (O.Office.model x.last) };
+    ghost heard = { λ x. length_heard (B.offices x.bank) (O.model x.last) };
 
-    ghost lawful = { λ x k. lawful_with (B.Bank.offices x.bank) (O.Office.model x.last) (B.Bank.heard x.bank) (B.Bank.lawful x.bank) (O.Office.lawful x.last) k };
+    ghost lawful = { λ x k. lawful_with (B.offices x.bank) (O.model x.last) (B.heard x.bank) (B.lawful x.bank) (O.lawful x.last) k };
 
     fn office_count(&self) -> u8 {
-        let count = self.bank.office_count();
-        if count < 16 { count + 1 } else { 16 }
+        (self.bank.office_count() + 1).min(16)
     }
 
     fn role_count(&self, office: u8) -> u8 {
-        match self.seat(office) {
-            Seat::Earlier => self.bank.role_count(office),
-            Seat::Last => self.last.role_count(),
-            Seat::Nobody => 0,
+        if self.is_last(office) {
+            self.last.role_count()
+        } else {
+            self.bank.role_count(office)
         }
     }
 
     fn is_over(&self, office: u8, senior: u8, junior: u8) -> bool {
-        match self.seat(office) {
-            Seat::Earlier => self.bank.is_over(office, senior, junior),
-            Seat::Last => self.last.is_over(senior, junior),
-            Seat::Nobody => false,
+        if self.is_last(office) {
+            self.last.is_over(senior, junior)
+        } else {
+            self.bank.is_over(office, senior, junior)
         }
     }
 
     fn is_shared(&self, office: u8, role: u8) -> bool {
-        match self.seat(office) {
-            Seat::Earlier => self.bank.is_shared(office, role),
-            Seat::Last => self.last.is_shared(role),
-            Seat::Nobody => false,
+        if self.is_last(office) {
+            self.last.is_shared(role)
+        } else {
+            self.bank.is_shared(office, role)
         }
     }
 
     fn set_count(&self, office: u8) -> u8 {
-        match self.seat(office) {
-            Seat::Earlier => self.bank.set_count(office),
-            Seat::Last => self.last.set_count(),
-            Seat::Nobody => 0,
+        if self.is_last(office) {
+            self.last.set_count()
+        } else {
+            self.bank.set_count(office)
         }
     }
 
     fn set_bound(&self, office: u8, set: u8) -> u8 {
-        match self.seat(office) {
-            Seat::Earlier => self.bank.set_bound(office, set),
-            Seat::Last => self.last.set_bound(set),
-            Seat::Nobody => 0,
+        if self.is_last(office) {
+            self.last.set_bound(set)
+        } else {
+            self.bank.set_bound(office, set)
         }
     }
 
     fn set_member(&self, office: u8, set: u8, place: u8) -> Option<u8> {
-        match self.seat(office) {
-            Seat::Earlier => self.bank.set_member(office, set, place),
-            Seat::Last => self.last.set_member(set, place),
-            Seat::Nobody => None,
+        if self.is_last(office) {
+            self.last.set_member(set, place)
+        } else {
+            self.bank.set_member(office, set, place)
         }
     }
 }

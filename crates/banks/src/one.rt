@@ -1,4 +1,5 @@
-ghost use Rattle.std.specs.Prelude.{◌≡◌, [], ◌∷◌};
+ghost use Rattle.std.specs.Prelude.{◌≡◌, [], ◌∷◌, MatchOption};
+ghost use Rattle.banks.specs.Banks.{no_office, office_at};
 ghost use Rattle.banks.specs.Joined.{lawful_one};
 ghost use Rattle.std.proofs.Common.{rules};
 
@@ -17,56 +18,48 @@ impl<O: Office> One<O> {
     {
         One { office }
     }
+
+    // The office with this number, where there is one.
+    fn at(&self, office: u8) -> Option<&O>
+        ensures { MatchOption result (office_at (O.model self.now.office ∷ []) office ≡ no_office) (λ o. office_at (O.model self.now.office ∷ []) office ≡ O.model o.now) }
+    {
+        (office == 0).then_some(&self.office)
+    }
 }
 
 impl<O: Office> Bank for One<O> {
-    ghost offices = { λ x. O.Office.model x.office ∷ [] };
+    ghost offices = { λ x. O.model x.office ∷ [] };
 
     ghost heard = { Prim.search rules };
 
-    ghost lawful = { λ x k. lawful_one (O.Office.model x.office) (O.Office.lawful x.office) k };
+    ghost lawful = { λ x k. lawful_one (O.model x.office) (O.lawful x.office) k };
 
     fn office_count(&self) -> u8 {
         1
     }
 
     fn role_count(&self, office: u8) -> u8 {
-        if office == 0 {
-            self.office.role_count()
-        } else {
-            0
-        }
+        self.at(office).map_or(0, |one| one.role_count())
     }
 
     fn is_over(&self, office: u8, senior: u8, junior: u8) -> bool {
-        office == 0 && self.office.is_over(senior, junior)
+        self.at(office)
+            .is_some_and(|one| one.is_over(senior, junior))
     }
 
     fn is_shared(&self, office: u8, role: u8) -> bool {
-        office == 0 && self.office.is_shared(role)
+        self.at(office).is_some_and(|one| one.is_shared(role))
     }
 
     fn set_count(&self, office: u8) -> u8 {
-        if office == 0 {
-            self.office.set_count()
-        } else {
-            0
-        }
+        self.at(office).map_or(0, |one| one.set_count())
     }
 
     fn set_bound(&self, office: u8, set: u8) -> u8 {
-        if office == 0 {
-            self.office.set_bound(set)
-        } else {
-            0
-        }
+        self.at(office).map_or(0, |one| one.set_bound(set))
     }
 
     fn set_member(&self, office: u8, set: u8, place: u8) -> Option<u8> {
-        if office == 0 {
-            self.office.set_member(set, place)
-        } else {
-            None
-        }
+        self.at(office)?.set_member(set, place)
     }
 }

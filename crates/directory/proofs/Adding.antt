@@ -1,56 +1,54 @@
 -- A lawful set is accepted.
-use Rattle.std.proofs.Common.{◌≡◌, ℕ, suc, ◌+◌, ◌<◌, ◌≤◌, true, not, eqb, ltb, leb, List, [], ◌∷◌, ◌++◌, length, get_or, take, Ok, sym, refl, ap, ◌∙◌, ap₂, arith}
+use Rattle.std.proofs.Common.{◌≡◌, ℕ, suc, ◌+◌, ◌<◌, true, List, [], ◌∷◌, length, get_or, take, Ok, sym, refl, ap, ◌∙◌, ap₂, arith}
 use Rattle.std.specs.List.{AllByRecursion}
 use Rattle.std.proofs.lemmas.List.{take_more, length-take-le}
+use Rattle.std.proofs.lemmas.Grind.{common_steps}
 use Rattle.std.proofs.ByRecursion.{All-get_or}
-use Rattle.std.proofs.lemmas.Bool.{and_from, not_from_false, ne_eqb, lt-ltb, le-leb}
-use Rattle.offices.specs.Model.{SetModel, Shaped, bound_at}
-use Rattle.offices.specs.Drafting.{Answer, missing, all_differ, all_below, good_set, set_answer, with_set}
-use Rattle.offices.proofs.SetShape.{answer_ok}
+use Rattle.offices.specs.Bases.{base_roles, base_sets, office_with}
+use Rattle.offices.specs.Model.{SetModel, OfficeModel, Lawful, Shaped, bound_at}
+use Rattle.offices.specs.declared.base.OfficeBase.{OfficeBase}
+use Rattle.offices.specs.Drafting.{missing, all_differ, all_below, good_set, set_answer, after_set}
 use Rattle.law.specs.Roles.{no_set}
+use Rattle.directory.specs.Heard.{first_sets}
 use Rattle.directory.specs.SetWords.{members_at}
 use Rattle.directory.proofs.Membership.{bound_get_or}
 
 missing_from : (x : ℕ) (xs : List ℕ) → ((i : ℕ) → i < length xs → get_or xs i 0 ≡ x → ⊥) → missing x xs ≡ true
 missing_from x [] h = refl
 missing_from x (y ∷ ys) h =
-    and_from (not (eqb y x)) (missing x ys) (not_from_false (eqb y x) (ne_eqb y x (h 0 (omega arith)))) (missing_from x ys (λ i l. h (suc i) (omega arith)))
+    let rest = missing_from x ys (λ i l. h (suc i) (omega arith)) in
+    let here = h 0 (omega arith) in
+    grind (arith, common_steps)
 
 differ_from : (xs : List ℕ) → ((p q : ℕ) → p < length xs → q < length xs → get_or xs p 0 ≡ get_or xs q 0 → p ≡ q) → all_differ xs ≡ true
 differ_from [] h = refl
 differ_from (x ∷ xs) h =
-    and_from (missing x xs) (all_differ xs)
-    (missing_from x xs (λ i l e. let z : suc i ≡ 0 = h (suc i) 0 (omega arith) (omega arith) e in omega arith))
-    (differ_from xs (λ p q l k e. let z : suc p ≡ suc q = h (suc p) (suc q) (omega arith) (omega arith) e in omega arith))
+    let first = missing_from x xs (λ i l e. let z : suc i ≡ 0 = h (suc i) 0 (omega arith) (omega arith) e in omega arith) in
+    let rest = differ_from xs (λ p q l k e. let z : suc p ≡ suc q = h (suc p) (suc q) (omega arith) (omega arith) e in omega arith) in
+    grind (arith, common_steps)
 
 below_from : (n : ℕ) (xs : List ℕ) → AllByRecursion (λ r. r < n) xs → all_below n xs ≡ true
 below_from n [] h = refl
-below_from n (x ∷ xs) h = and_from (ltb x n) (all_below n xs) (lt-ltb x n h.0) (below_from n xs h.1)
+below_from n (x ∷ xs) h = grind (arith, common_steps, below_from n xs h.1, h.0)
 
 module _ (n : ℕ) (s : SetModel) (h : Shaped n s) where
   good : good_set s.members s.bound ≡ true
-  good =
-      and_from (leb 2 (length s.members)) _ (le-leb 2 (length s.members) h.least)
-      (and_from (leb (length s.members) 8) _ (le-leb (length s.members) 8 h.most)
-      (and_from (leb 2 s.bound) _ (le-leb 2 s.bound h.low)
-      (and_from (leb s.bound (length s.members)) _ (le-leb s.bound (length s.members) h.high) (differ_from s.members h.differ))))
+  good = let differ = differ_from s.members h.differ in grind (arith, common_steps)
 
   accepted : (own : List SetModel) → length own < 8 → set_answer n own s.members s.bound ≡ Ok tt
-  accepted own room = sym (answer_ok n own s.members s.bound room good (below_from n s.members h.exist))
+  accepted own room = grind (arith, common_steps, good, below_from n s.members h.exist)
 
--- set k after those before it
-module _ (n : ℕ) (sets : List SetModel) (shaped : AllByRecursion (Shaped n) sets) (eight : length sets ≤ 8) (k : ℕ) (there : k < length sets) where
-  pub set_added : (roles : ℕ) (own after : List SetModel) (ms : List ℕ) (t : ℕ) (r : Answer) → roles ≡ n → own ≡ take k sets → ms ≡ members_at sets k → t ≡ bound_at sets k → r ≡ set_answer roles own ms t → after ≡ with_set r own ms t → after ≡ take (k + 1) sets
-  set_added roles own after ms t r er eo em et answer e =
-      let s = get_or sets k no_set in
-      let bound : t ≡ s.bound = et ∙ bound_get_or sets k in
-      let few : length own ≡ k = ap length eo ∙ length-take-le k sets (omega arith) in
-      let ok : r ≡ Ok tt = answer
-      ∙ ap (λ x. set_answer x own ms t) er
-      ∙ ap₂ (λ xs x. set_answer n own xs x) em bound
-      ∙ accepted n s (All-get_or (Shaped n) sets k no_set there shaped) own (omega arith) in
-      e
-      ∙ ap (λ (x : Answer). with_set x own ms t) ok
-      ∙ ap (λ (xs : List SetModel). xs ++ (record { members = ms; bound = t } ∷ [])) eo
-      ∙ ap₂ (λ xs x. take k sets ++ (record { members = xs; bound = x } ∷ [])) em bound
-      ∙ sym (take_more sets k no_set there)
+-- set k of an office, after those before it
+module _ (m : OfficeModel) (law : Lawful m) (k : ℕ) (there : k < length m.sets) (b : OfficeBase) (before : office_with b m.over ≡ first_sets k m) (ms : List ℕ) (members : ms ≡ members_at m.sets k) (t : ℕ) (bound : t ≡ bound_at m.sets k) where
+  pub set_accepted : set_answer (base_roles b) (base_sets b) ms t ≡ Ok tt
+  set_accepted =
+      let few : length (take k m.sets) ≡ k = length-take-le k m.sets (omega arith) in
+      ap (λ (x : OfficeModel). set_answer x.roles x.sets ms t) before
+      ∙ ap₂ (λ xs x. set_answer m.roles (take k m.sets) xs x) members (bound ∙ bound_get_or m.sets k)
+      ∙ accepted m.roles (get_or m.sets k no_set) (All-get_or (Shaped m.roles) m.sets k no_set there law.shaped) (take k m.sets) (omega (arith, law.eight))
+
+  pub set_added : after_set (Ok tt) (office_with b m.over) ms t ≡ first_sets (k + 1) m
+  set_added =
+      ap (λ x. after_set (Ok tt) x ms t) before
+      ∙ ap₂ (λ xs x. after_set (Ok tt) (first_sets k m) xs x) members (bound ∙ bound_get_or m.sets k)
+      ∙ ap (λ (xs : List SetModel). record { roles = m.roles; over = m.over; shared = m.shared; sets = xs }) (sym (take_more m.sets k no_set there))

@@ -1,9 +1,9 @@
 -- The offices of a directory: each is lawful, and there are at most sixteen.
-use Rattle.std.proofs.Common.{◌≡◌, ℕ, zero, suc, ◌+◌, ◌<◌, ◌≤◌, Bool, List, [], ◌∷◌, ◌++◌, map, length, get_or, take, Some, None, vec_items, vec_len, Option, sym, ap, ◌∙◌, ap₂, arith, Bor, MatchOption}
+use Rattle.std.proofs.Common.{◌≡◌, ℕ, zero, suc, ◌<◌, ◌≤◌, Bool, List, [], ◌∷◌, map, length, get_or, Some, None, vec_items, vec_len, Option, sym, ap, ◌∙◌, arith, Bor, MatchOption}
 use mathlib.Core.Logic.{∥∥₁_elim}
 use denote.Struct.Props.{props}
 use Rattle.std.specs.List.{HoldsAt}
-use Rattle.std.proofs.lemmas.List.{length-map, map_push, take_more, get_or-map, get_or_past}
+use Rattle.std.proofs.lemmas.List.{length-map, get_or-map, get_or_past}
 use Rattle.offices.specs.Bases.{base_roles, base_sets, base_shared, office_with}
 use Rattle.offices.specs.Members.{row_holds}
 use Rattle.offices.specs.Model.{SetModel, OfficeModel, Lawful}
@@ -63,11 +63,3 @@ module _ (d : Directory) where
 
 pub same_model : (b : OfficeBase) (over : ℕ → ℕ → Bool) (m : OfficeModel) → base_roles b ≡ m.roles → over ≡ m.over → base_shared b ≡ m.shared → base_sets b ≡ m.sets → office_with b over ≡ m
 same_model b over m p q r s = λ i. record { roles = p i; over = q i; shared = r i; sets = s i }
-
--- one entry more, of office o
-pub entered_more : (bank : List OfficeModel) (o : ℕ) (items after : List OfficeEntry) (e : OfficeEntry) → o < length bank → map entry_model items ≡ take o bank → after ≡ items ++ (e ∷ []) → entry_model e ≡ office_at bank o → map entry_model after ≡ take (o + 1) bank
-entered_more bank o items after e there before more is =
-    ap (map entry_model) more
-    ∙ map_push entry_model items e
-    ∙ ap₂ (λ xs x. xs ++ (x ∷ [])) before is
-    ∙ sym (take_more bank o no_office there)

@@ -1,26 +1,21 @@
--- One shared mark more.
-use Rattle.std.proofs.Common.{◌≡◌, ℕ, ◌+◌, ◌<◌, Bool, true, false, ◌&&◌, ◌||◌, eqb, ltb, [], Ok, Err, sym, ap, ◌∙◌, arith}
-use Rattle.std.proofs.lemmas.Bool.{cond_below}
-use Rattle.answers.specs.declared.Refusal.TheVariants.{NoSuchRole}
+-- The shared marks of an office, one role after another.
+use Rattle.std.proofs.Common.{◌≡◌, ℕ, ◌+◌, Bool, true, false, ◌&&◌, ltb, [], Ok, ap, ◌∙◌}
+use mathlib.Core.Path.{fun_ext}
 use Rattle.offices.specs.Model.{OfficeModel}
-use Rattle.offices.specs.Bases.{base_roles, base_sets, base_shared, office_with}
-use Rattle.offices.specs.Drafting.{Answer, mark_answer, after_mark}
-use Rattle.offices.specs.declared.base.OfficeBase.{OfficeBase}
-use Rattle.directory.proofs.Gathering.{gathered_yes}
+use Rattle.offices.specs.Drafting.{after_mark}
+use Rattle.directory.proofs.Gathering.{gathered_yes, gathered_no}
 
-abbrev pub nobody_over : ℕ → ℕ → Bool
-nobody_over a b = false
+-- an office with these marks and no set
+abbrev pub with_marks : OfficeModel → (ℕ → Bool) → OfficeModel
+with_marks m marks = record { roles = m.roles; over = m.over; shared = marks; sets = [] }
 
--- a base with n roles, the marks below j and no set
-abbrev pub Marked : OfficeBase → ℕ → (ℕ → Bool) → ℕ → Type 0
-Marked b n marks j = (base_roles b ≡ n) × ((a : ℕ) → base_shared b a ≡ (ltb a j && marks a)) × (base_sets b ≡ [])
+-- the marks below role j, and no set
+abbrev pub first_marks : ℕ → OfficeModel → OfficeModel
+first_marks j m = with_marks m (λ a. ltb a j && m.shared a)
 
-pub marked_more : (b after : OfficeBase) (n : ℕ) (marks : ℕ → Bool) (j : ℕ) (r : Answer) → Marked b n marks j → j < n → marks j ≡ true → r ≡ mark_answer (base_roles b) j → office_with after nobody_over ≡ after_mark r (office_with b nobody_over) j → Marked after n marks (j + 1)
-marked_more b after n marks j r m l t answer e =
-    let roles = m.0 in
-    let accepted : r ≡ Ok tt = answer ∙ sym (cond_below j (base_roles b) (Ok tt) (Err NoSuchRole) (omega arith)) in
-    let same : office_with after nobody_over ≡ after_mark (Ok tt) (office_with b nobody_over) j = e ∙ ap (λ (x : Answer). after_mark x (office_with b nobody_over) j) accepted in (
-      ap (λ (o : OfficeModel). o.roles) same ∙ roles,
-      (λ a. ap (λ (o : OfficeModel). o.shared a) same ∙ ap (λ x. x || eqb a j) (m.1 a) ∙ gathered_yes marks j t a),
-      ap (λ (o : OfficeModel). o.sets) same ∙ m.2,
-    )
+module _ (m b : OfficeModel) (j : ℕ) (before : b ≡ first_marks j m) where
+  pub marked_more : m.shared j ≡ true → after_mark (Ok tt) b j ≡ first_marks (j + 1) m
+  marked_more t = ap (λ x. after_mark (Ok tt) x j) before ∙ ap (with_marks m) (fun_ext (gathered_yes m.shared j t))
+
+  pub marked_same : m.shared j ≡ false → b ≡ first_marks (j + 1) m
+  marked_same n = before ∙ ap (with_marks m) (fun_ext (gathered_no m.shared j n))

@@ -9,7 +9,7 @@ ghost use Rattle.offices.specs.Model.{bound_at, member_at};
 
 use crate::directory::Directory;
 use crate::entry::OfficeEntry;
-use banks::Bank;
+use banks::{Bank, OfficeAt};
 use offices::RoleSet;
 use std::alloc::{AllocError, Global};
 
@@ -19,19 +19,25 @@ impl Directory {
         ensures heard { IfOk result (λ d. heard d ≡ B.offices bank.now) }
         ensures lawful { IfOk result (λ d. LawfulBank (heard d)) }
     {
-        let count = bank.office_count();
-        let mut entries = Vec::with_capacity(heap, count as usize)?;
-        for office in 0..count {
-            entries.push(OfficeEntry::read(bank, office))?;
-        }
+        let entries = (0..bank.office_count())
+            .map(|office| OfficeEntry::read(&OfficeAt::new(bank, office)))
+            .collect(heap)?;
         Ok(Directory { entries })
     }
 
     // The entry of an office, where there is such an office.
-    fn entry(&self, office: usize) -> Option<&OfficeEntry>
+    fn entry(&self, office: u8) -> Option<&OfficeEntry>
         ensures { MatchOption result (office_at (heard self.now) office ≡ no_office) (λ e. office_at (heard self.now) office ≡ entry_model e.now) }
     {
-        self.entries.get(office)
+        self.entries.get(usize::from(office))
+    }
+
+    // The entry of the office that a role of this code has, where there is one, and the role's number there.
+    fn entry_of(&self, code: u32) -> Option<(&OfficeEntry, u8)>
+        ensures { MatchOption result (office_at (heard self.now) (office_of code) ≡ no_office) (λ e. (office_at (heard self.now) (office_of code) ≡ entry_model e.0.now) × (e.1 ≡ role_of code)) }
+    {
+        let entry = self.entry(u8::try_from(code / 64).ok()?)?;
+        Some((entry, (code % 64) as u8))
     }
 
     pub fn office_count(&self) -> u8
@@ -44,76 +50,58 @@ impl Directory {
     pub fn role_count(&self, office: u8) -> u8
         ensures { result ≡ (office_at (heard self.now) office).roles }
     {
-        match self.entry(office as usize) {
-            Some(entry) => entry.base.role_count(),
-            None => 0,
-        }
+        self.entry(office)
+            .map_or(0, |entry| entry.base.role_count())
     }
 
     // Whether a role has this code.
     pub fn has_role(&self, code: u32) -> bool
         ensures { result ≡ nat_lt (role_of code) (office_at (heard self.now) (office_of code)).roles }
     {
-        match self.entry((code / 64) as usize) {
-            Some(entry) => code % 64 < entry.base.role_count() as u32,
-            None => false,
-        }
+        self.entry_of(code)
+            .is_some_and(|(entry, role)| role < entry.base.role_count())
     }
 
     // Whether a role has this code and is shared.
     pub fn is_shared(&self, code: u32) -> bool
         ensures { result ≡ (office_at (heard self.now) (office_of code)).shared (role_of code) }
     {
-        match self.entry((code / 64) as usize) {
-            Some(entry) => entry.base.is_shared((code % 64) as u8),
-            None => false,
-        }
+        self.entry_of(code)
+            .is_some_and(|(entry, role)| entry.base.is_shared(role))
     }
 
     // The roles of its own office that the role with this code is over.
     pub fn juniors(&self, code: u16) -> RoleSet
         ensures { (i : ℕ) → holds result i ≡ (office_at (heard self.now) (office_of code)).over (role_of code) i }
     {
-        match self.entry((code / 64) as usize) {
-            Some(entry) => entry.juniors_of((code % 64) as u8),
-            None => RoleSet::empty(),
-        }
+        self.entry_of(u32::from(code))
+            .map_or(RoleSet::empty(), |(entry, role)| entry.juniors_of(role))
     }
 
     pub fn set_count(&self, office: u8) -> u8
         ensures { result ≡ length (office_at (heard self.now) office).sets }
     {
-        match self.entry(office as usize) {
-            Some(entry) => entry.base.set_count(),
-            None => 0,
-        }
+        self.entry(office).map_or(0, |entry| entry.base.set_count())
     }
 
     pub fn set_bound(&self, office: u8, set: u8) -> u8
         ensures { result ≡ bound_at (office_at (heard self.now) office).sets set }
     {
-        match self.entry(office as usize) {
-            Some(entry) => entry.base.set_bound(set),
-            None => 0,
-        }
+        self.entry(office)
+            .map_or(0, |entry| entry.base.set_bound(set))
     }
 
     pub fn set_member(&self, office: u8, set: u8, place: u8) -> Option<u8>
         ensures { result ≡ member_at (office_at (heard self.now) office).sets set place }
     {
-        match self.entry(office as usize) {
-            Some(entry) => entry.base.set_member(set, place),
-            None => None,
-        }
+        self.entry(office)?.base.set_member(set, place)
     }
 
     // The members of a set.
     pub fn set_roles(&self, office: u8, set: u8) -> RoleSet
         ensures { (i : ℕ) → holds result i ≡ among i (set_at (heard self.now) office set).members }
     {
-        match self.entry(office as usize) {
-            Some(entry) => entry.members_of(set),
-            None => RoleSet::empty(),
-        }
+        self.entry(office)
+            .map_or(RoleSet::empty(), |entry| entry.members_of(set))
     }
 }

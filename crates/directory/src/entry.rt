@@ -1,4 +1,3 @@
-ghost use Rattle.std.specs.Prelude.{◌≡◌, length};
 ghost use Rattle.offices.specs.Bases.{base_roles, base_sets};
 ghost use Rattle.offices.specs.Members.{row_holds};
 ghost use Rattle.offices.specs.Order.{Order};
@@ -13,8 +12,6 @@ pub struct OfficeEntry {
     pub(crate) base: OfficeBase,
     pub(crate) juniors: [RoleSet; 64],
     pub(crate) members: [RoleSet; 8],
-    ghost roles: { length juniors ≡ 64 },
-    ghost sets: { length members ≡ 8 },
     ghost order: { ∥ Order (base_roles base) (row_holds juniors) ∥₁ },
     ghost words: { ∥ WordsHold members (base_sets base) ∥₁ },
 }

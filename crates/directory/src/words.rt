@@ -1,31 +1,23 @@
 ghost use Rattle.std.specs.Prelude.{◌≡◌, ℕ};
 ghost use Rattle.directory.specs.SetWords.{among, members_at, WordsHold};
-ghost use Rattle.offices.specs.Bases.{base_sets};
 ghost use Rattle.offices.specs.Members.{holds};
 
-use offices::{OfficeBase, RoleSet};
+use crate::sets::listed_members;
+use offices::{Office, RoleSet};
+use std::array;
 
 // The members of one set as a set of roles.
-fn word_of(base: &OfficeBase, set: u8) -> RoleSet
-    ensures { (i : ℕ) → holds result i ≡ among i (members_at (base_sets base.now) set) }
+fn word_of<O: Office>(office: &O, set: u8) -> RoleSet
+    ensures { (i : ℕ) → holds result i ≡ among i (members_at (O.model office.now).sets set) }
 {
-    let mut members = RoleSet::empty();
-    for place in 0..8u8 {
-        match base.set_member(set, place) {
-            Some(role) => members = members.with(role),
-            None => return members,
-        }
-    }
-    members
+    listed_members(office, set)
+        .iter()
+        .fold(RoleSet::empty(), |word, role| word.with(*role))
 }
 
 // The members of each set.
-pub(crate) fn words_of(base: &OfficeBase) -> [RoleSet; 8]
-    ensures { WordsHold result (base_sets base.now) }
+pub(crate) fn words_of<O: Office>(office: &O) -> [RoleSet; 8]
+    ensures { WordsHold result (O.model office.now).sets }
 {
-    let mut words = [RoleSet::empty(); 8];
-    for set in 0..8u8 {
-        words[set as usize] = word_of(base, set);
-    }
-    words
+    array::from_fn(|set| word_of(office, set as u8))
 }

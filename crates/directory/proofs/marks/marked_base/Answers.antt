@@ -1,43 +1,28 @@
-use Rattle.std.proofs.Common.{◌≡◌, ◌+◌, ◌<◌, sym, ap, ◌∙◌, subst, arith}
+use Rattle.std.proofs.Common.{sym, refl, ap, ◌∙◌, arith}
+use mathlib.Core.Path.{fun_ext}
+use Rattle.offices.specs.Bases.{office_with}
 use Rattle.offices.specs.Model.{OfficeModel}
 use Rattle.offices.specs.declared.base.OfficeBase.{OfficeBase}
-use Rattle.banks.specs.Banks.{office_at}
-use Rattle.directory.proofs.Gathering.{gathered_none, gathered_no, gathered_all}
-use Rattle.directory.proofs.Marking.{Marked, nobody_over, marked_more}
+use Rattle.directory.proofs.Gathering.{gathered_none}
+use Rattle.directory.proofs.Listing.{same_model}
+use Rattle.directory.proofs.Marking.{first_marks, marked_more, marked_same}
 use Rattle.directory.proofs.marks.marked_base.Goals as goal
-use Rattle.directory.proofs.marks.marked_base.Goals.{then-is_shared, else-is_shared}
+use Rattle.directory.proofs.marks.marked_base.Goals.{then-is_shared+in-Ok, else-is_shared}
 
 pub loop-role-init : goal.loop-role-init
 loop-role-init g c =
-    let m = office_at (g.B.Bank.offices c.args.bank.now) c.args.office in
-    let law = g.met.B.Bank.lawful c.args.bank.now c.args.office in
-    let new = c.new-base.ensures in (
-      omega (arith, law.few, c.role_count-roles.ensures, new.1),
-      (λ a. ap (λ (x : OfficeModel). x.shared a) new.0 ∙ gathered_none m.shared a),
-      ap (λ (x : OfficeModel). x.sets) new.0,
-    )
+    let m = g.O.Office.model c.args.office.now in
+    let law = g.met.O.Office.lawful c.args.office.now in
+    let new = c.new-base.ensures in
+    same_model c.new-base.result m.over (first_marks 0 m) (omega (arith, law.few, c.role_count-roles.ensures, new.1)) refl
+    (ap (λ (x : OfficeModel). x.shared) new.0 ∙ fun_ext (gathered_none m.shared)) (ap (λ (x : OfficeModel). x.sets) new.0)
 
 pub loop-role-preserved : goal.loop-role-preserved
 loop-role-preserved g c =
-    let m = office_at (g.B.Bank.offices c.args.bank.now) c.args.office in
+    let m = g.O.Office.model c.args.office.now in
     let j = c.loop-role.role in
-    let there : j < m.roles = omega (arith, c.role_count-roles.ensures) in
-    let inv = c.loop-role.invariant in
+    let before = office_with c.loop-role.base m.over in
     elim c.if-is_shared.branch [
-      | then-is_shared w ↦ subst (λ (b : OfficeBase). Marked b m.roles m.shared (j + 1)) (sym w.base-is)
-          (marked_more c.loop-role.base w.share.new.self m.roles m.shared j w.share.result inv there (sym w.if-is_shared.ensures) w.share.ensures.answer (w.share.ensures.after nobody_over))
-      | else-is_shared w ↦ subst (λ (b : OfficeBase). Marked b m.roles m.shared (j + 1)) (sym w.base-is)
-          (inv.0, (λ a. inv.1 a ∙ gathered_no m.shared j (sym w.if-is_shared.ensures) a), inv.2)
+      | then-is_shared+in-Ok w ↦ ap (λ (b : OfficeBase). office_with b m.over) w.base-is ∙ w.in-Ok.ensures.after m.over ∙ marked_more m before j c.loop-role.invariant (sym w.if-is_shared.ensures)
+      | else-is_shared w ↦ ap (λ (b : OfficeBase). office_with b m.over) w.base-is ∙ marked_same m before j c.loop-role.invariant (sym w.if-is_shared.ensures)
     ]
-
-pub returns : goal.returns
-returns g c =
-    let m = office_at (g.B.Bank.offices c.args.bank.now) c.args.office in
-    let law = g.met.B.Bank.lawful c.args.bank.now c.args.office in
-    let inv = c.loop-role.invariant in
-    let end : c.loop-role.role ≡ m.roles = omega (arith, c.role_count-roles.ensures) in
-    record {
-      roles = inv.0;
-      shared = λ a. inv.1 a ∙ gathered_all m.shared c.loop-role.role (λ i h. omega (arith, law.marks i h)) a;
-      sets = inv.2;
-    }

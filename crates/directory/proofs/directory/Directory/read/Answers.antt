@@ -1,27 +1,22 @@
-use Rattle.std.proofs.Common.{◌<◌, length, vec_items, sym, ◌∙◌, subst, arith}
-use Rattle.std.proofs.lemmas.List.{take_all}
+use Rattle.std.proofs.Common.{length, vec_items, sym, ap, subst, arith, rules}
+use Rattle.std.proofs.lemmas.List.{length-map}
 use Rattle.law.specs.Roles.{LawfulBank}
-use Rattle.directory.specs.Heard.{heard}
-use Rattle.directory.proofs.Listing.{entered_more}
+use Rattle.directory.specs.Heard.{entry_model, heard}
+use Rattle.directory.proofs.Collecting.{entries_collected}
 use Rattle.directory.proofs.directory.Directory.read.Goals as goal
 
 pub invariant_of-result : goal.invariant_of-result
-invariant_of-result g c = omega (arith, c.loop-office.invariant.1, g.met.B.Bank.heard c.args.bank.now, c.office_count-count.ensures)
-
-pub loop-office-preserved : goal.loop-office-preserved
-loop-office-preserved g c =
+invariant_of-result g c =
     let bank = g.B.Bank.offices c.args.bank.now in
-    let o = c.loop-office.office in
-    let there : o < length bank = omega (arith, c.office_count-count.ensures) in
-    let push = c.in_ok-push.ensures in (
-      entered_more bank o (vec_items c.loop-office.entries) (vec_items c.push.new.self) c.read.result there c.loop-office.invariant.0 push.items c.read.ensures,
-      omega (arith, push.len, c.loop-office.invariant.1),
-    )
+    let entries = c.in_ok-entries.entries in
+    let same = entries_collected _ bank _ _ c.collect.result entries _ c.office_count.ensures c.in_ok-entries.was c.collect.ensures.ran c.map.ensures.source c.map.ensures.closure (λ o e q k. search rules) in
+    omega (arith, g.met.B.Bank.heard c.args.bank.now, ap length same, length-map (vec_items entries) entry_model, entries.ok.0)
 
 pub returns : goal.returns
 unfolding heard
 returns g c =
     let bank = g.B.Bank.offices c.args.bank.now in
     let law = g.met.B.Bank in
-    let same = c.loop-office.invariant.0 ∙ take_all c.loop-office.office bank (omega (arith, c.office_count-count.ensures)) in
+    let entries = c.in_ok-entries.entries in
+    let same = entries_collected _ bank _ _ c.collect.result entries _ c.office_count.ensures c.in_ok-entries.was c.collect.ensures.ran c.map.ensures.source c.map.ensures.closure (λ o e q k. search rules) in
     record { heard = same; lawful = subst LawfulBank (sym same) (record { heard = law.heard c.args.bank.now; lawful = law.lawful c.args.bank.now }) }
