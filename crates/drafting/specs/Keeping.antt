@@ -3,9 +3,13 @@ use Rattle.std.specs.Prelude.{ℕ, Bool, true, false, cond, not, ◌&&◌, ◌||
 use Rattle.answers.specs.declared.Refusal.TheVariants.{NoSuchRole, Circular}
 use Rattle.offices.specs.Drafting.{Answer}
 
--- the answer to a pair among 64 roles; every role is over itself, so senior and junior may be one here
+-- the answer to a pair among 64 roles, where `circle` says whether the junior is over the senior
+abbrev pub checked : Bool → Answer → ℕ → ℕ → Answer
+checked circle own s j = cond (nat_lt s 64 && nat_lt j 64) (cond circle (Err Circular) own) (Err NoSuchRole)
+
+-- every role is over itself, so senior and junior may be one here
 abbrev pub keep_answer : (ℕ → ℕ → Bool) → Answer → ℕ → ℕ → Answer
-keep_answer over own s j = cond (nat_lt s 64 && nat_lt j 64) (cond (over j s) (Err Circular) own) (Err NoSuchRole)
+keep_answer over own s j = checked (over j s) own s j
 
 -- the pair is answered without a look at what the kind stores: no such role, one role twice, or it follows already
 abbrev pub settled : ℕ → (ℕ → ℕ → Bool) → ℕ → ℕ → Bool
