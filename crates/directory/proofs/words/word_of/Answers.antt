@@ -4,7 +4,7 @@ use Rattle.std.proofs.ByRecursion.{All-get_or}
 use Rattle.std.proofs.lemmas.Bool.{lt-ltb}
 use Rattle.offices.specs.Bases.{base_sets}
 use Rattle.offices.proofs.Bit.{and_true}
-use Rattle.offices.proofs.Props.{shaped_from}
+use Rattle.offices.proofs.Lawfulness.{table_shaped}
 use Rattle.directory.specs.SetWords.{among, members_at}
 use Rattle.directory.proofs.Membership.{member_nth, members_few, members_exist, nth_some, nth_none, among_push}
 use Rattle.directory.proofs.words.word_of.Goals as goal
@@ -25,7 +25,7 @@ loop-place-preserved c i =
     let p = c.loop-place.place in
     let r = c.in-Some.role in
     let at = nth_some ms p r (sym (member_nth sets c.args.set p) ∙ sym c.in-Some.ensures) in
-    let shaped = shaped_from t.roles t.count t.sets t.shaped in
+    let shaped = table_shaped t in
     let exists : get_or ms p 0 < t.roles = All-get_or (λ x. x < t.roles) ms p 0 at.0 (members_exist t.roles sets shaped c.args.set) in
     let small : r < 64 = omega (arith, exists, at.1, t.few) in
     c.with-members.ensures i
@@ -38,6 +38,6 @@ returns c i =
     let t = c.args.base.now.table in
     let sets = base_sets c.args.base.now in
     let ms = members_at sets c.args.set in
-    let shaped = shaped_from t.roles t.count t.sets t.shaped in
+    let shaped = table_shaped t in
     let few : length ms ≤ 8 = members_few t.roles sets shaped c.args.set in
     c.loop-place.invariant i ∙ ap (among i) (take_all c.loop-place.place ms (omega arith))

@@ -1,10 +1,10 @@
 use Rattle.std.proofs.Common.{◌≡◌, ◌<◌, ◌≤◌, length, set, sym, ap, ◌∙◌, subst, ⊎_elim, arith}
-use Rattle.std.proofs.lemmas.List.{length-set, get_or_past}
+use Rattle.std.proofs.lemmas.List.{length-map, length-set, get_or_past}
 use Rattle.std.proofs.lemmas.Bool.{cases_eq, cases_lt}
 use Rattle.offices.specs.Bases.{base_sets}
 use Rattle.offices.specs.Members.{row_holds}
+use Rattle.offices.specs.Sets.{set_model}
 use Rattle.offices.proofs.RowFacts.{row_past, row_set_same, row_set_other}
-use Rattle.offices.proofs.SetRows.{length_sets}
 use Rattle.law.specs.Roles.{no_set}
 use Rattle.directory.specs.SetWords.{among, members_at}
 use Rattle.directory.proofs.words.words_of.Goals as goal
@@ -26,7 +26,7 @@ pub returns : goal.returns
 returns c k i =
     let t = c.args.base.now.table in
     let sets = base_sets c.args.base.now in
-    let few : length sets ≤ 8 = omega (arith, length_sets t.count t.sets (omega arith)) in
+    let few : length sets ≤ 8 = omega (arith, length-map t.sets.items set_model, t.eight) in
     ⊎_elim
     (λ (l : k < 8). c.loop-set.invariant.1 k i (omega arith))
     (λ (l : 8 ≤ k). row_past c.loop-set.words k i (omega (arith, c.loop-set.invariant.0)) ∙ sym (ap (λ s. among i s.members) (get_or_past sets k no_set (omega arith))))
