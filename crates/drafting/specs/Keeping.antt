@@ -1,5 +1,5 @@
 -- What a kind of seniority answers.
-use Rattle.std.specs.Prelude.{ℕ, Bool, true, false, cond, not, ◌&&◌, ◌||◌, Err, ◌==◌, nat_lt}
+use Rattle.std.specs.Prelude.{ℕ, Bool, cond, not, ◌&&◌, ◌||◌, Err, ◌==◌, nat_lt}
 use Rattle.answers.specs.declared.Refusal.TheVariants.{NoSuchRole, Circular}
 use Rattle.offices.specs.Drafting.{Answer}
 
@@ -14,8 +14,3 @@ keep_answer over own s j = checked (over j s) own s j
 -- the pair is answered without a look at what the kind stores: no such role, one role twice, or it follows already
 abbrev pub settled : ℕ → (ℕ → ℕ → Bool) → ℕ → ℕ → Bool
 settled n over s j = not (nat_lt s n && nat_lt j n) || (s == j || over s j)
-
--- the one or the other
-abbrev pub Either : Bool → Type 0 → Type 0 → Type 0
-Either true P Q = P
-Either false P Q = Q

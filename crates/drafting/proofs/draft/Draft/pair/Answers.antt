@@ -1,4 +1,5 @@
-use Rattle.std.proofs.Common.{◌≡◌, ℕ, ◌<◌, Bool, true, false, Ok, sym, refl, ap, ◌∙◌, ⊎_elim, arith}
+use Rattle.std.proofs.Common.{◌≡◌, ◌<◌, Bool, true, false, Ok, sym, refl, ap, ◌∙◌, ⊎_elim, arith}
+use Rattle.std.specs.Bool.{MatchBool}
 use Rattle.std.proofs.lemmas.Bool.{cases_Bool}
 use Rattle.answers.specs.declared.Refusal.TheVariants.{NoSuchRole, Circular}
 use Rattle.offices.specs.Order.{within, grown}
@@ -7,19 +8,18 @@ use Rattle.offices.specs.Drafting.{pair}
 use Rattle.offices.proofs.Closing.{grown_same}
 use Rattle.offices.proofs.Histories.{keeps_refused, keeps_pair, keeps_to}
 use Rattle.offices.proofs.PairAnswers.{answer_same, answer_follows}
-use Rattle.drafting.specs.Keeping.{Either}
 use Rattle.drafting.specs.Models.{office_of}
 use Rattle.drafting.specs.Within.{within_at, within_order, answer_kept, not_settled, settled_senior, settled_junior, settled_same, settled_known, office_after}
 use Rattle.drafting.proofs.draft.Draft.pair.Goals as goal
 
 -- what a test that is known says of the one or the other
-first_of : (b : Bool) (P Q : Type 0) → b ≡ true → P → Either b P Q
+first_of : (b : Bool) (P Q : Type 0) → b ≡ true → P → MatchBool b P Q
 first_of true P Q e p = p
-first_of false P Q e p = let z : ◌≡◌ {A = ℕ} 0 1 = cc in absurd (omega arith)
+first_of false P Q e p = cc
 
-second_of : (b : Bool) (P Q : Type 0) → b ≡ false → Q → Either b P Q
+second_of : (b : Bool) (P Q : Type 0) → b ≡ false → Q → MatchBool b P Q
 second_of false P Q e q = q
-second_of true P Q e q = let z : ◌≡◌ {A = ℕ} 0 1 = cc in absurd (omega arith)
+second_of true P Q e q = cc
 
 pub returns-then-senior-roles-clause-kind : goal.returns-then-senior-roles-clause-kind
 returns-then-senior-roles-clause-kind g c =
