@@ -3,13 +3,13 @@ use Rattle.std.proofs.lemmas.Bool.{cases_lt, lt-ltb, le-ltb}
 use Rattle.offices.specs.Members.{holds, nobody}
 use Rattle.offices.specs.declared.role_set.RoleSet.{RoleSet}
 use Rattle.offices.specs.Order.{itself_alone}
-use Rattle.offices.proofs.Bit.{and_true}
+use Rattle.std.proofs.Math.Bool.{and-true}
 use Rattle.offices.proofs.RowFacts.{row_past}
 use Rattle.matrix_office.proofs.rows.diagonal.Goals as goal
 
 alone_at : (a b : ℕ) (e r : RoleSet) → a < 64 → ((i : ℕ) → holds e i ≡ false) → ((i : ℕ) → holds r i ≡ (holds e i || (eqb i a && ltb a 64))) → holds r b ≡ itself_alone 64 a b
 alone_at a b e r l none told =
-    told b ∙ ap₂ (λ x y. x || (eqb b a && y)) (none b) (lt-ltb a 64 l) ∙ and_true (eqb b a) ∙ sym (ap (λ x. x && eqb b a) (lt-ltb a 64 l))
+    told b ∙ ap₂ (λ x y. x || (eqb b a && y)) (none b) (lt-ltb a 64 l) ∙ and-true (eqb b a) ∙ sym (ap (λ x. x && eqb b a) (lt-ltb a 64 l))
 
 pub returns : goal.returns
 returns c a b =
