@@ -36,7 +36,8 @@ pub trait Seniority {
     ghost order: { (x : Self) → Order 64 (over x) };
 }
 
-// Whether a kind may store a pair, where `circle` says whether the junior is over the senior.
+// Whether a kind may store a pair, where `circle` says whether the junior is over the senior. (It does not ask the
+// kind itself: `keep` calls it, and the check makes no proof of a circle of calls through a trait.)
 pub fn storable(senior: u8, junior: u8, circle: bool) -> Result<(), Refusal>
     ensures { result ≡ checked circle (Ok tt) senior junior }
 {
