@@ -1,3 +1,4 @@
 pub mod Keeping
 pub mod Models
+pub mod Pairing
 pub mod Within

@@ -9,4 +9,4 @@ pub mod seniority;
 
 pub use draft::Draft;
 pub use sealed::Sealed;
-pub use seniority::Seniority;
+pub use seniority::{Seniority, storable};

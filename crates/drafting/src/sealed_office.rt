@@ -11,12 +11,12 @@ use offices::Office;
 use search::Graph;
 
 impl<S: Seniority> Office for Sealed<S> {
-    ghost model = { sealed_as S.Seniority.over };
+    ghost model = { sealed_as S.over };
 
     ghost lawful = { λ x.
         let n = base_roles x.base in
-        let over = S.Seniority.over x.seniority in
-        office_lawful x.base (within n over) (within_order n over x.base.table.few (S.Seniority.order x.seniority)) };
+        let over = S.over x.seniority in
+        office_lawful x.base (within n over) (within_order n over x.base.table.few (S.order x.seniority)) };
 
     fn role_count(&self) -> u8 {
         self.base.role_count()
@@ -48,7 +48,7 @@ impl<S: Seniority> Office for Sealed<S> {
 impl<S: Seniority + Graph> Graph for Sealed<S> {
     ghost size = { λ x. base_roles x.base };
 
-    ghost leads = { λ x. within (base_roles x.base) (S.Graph.leads x.seniority) };
+    ghost leads = { λ x. within (base_roles x.base) (S.leads x.seniority) };
 
     ghost few = { Prim.search rules };
 

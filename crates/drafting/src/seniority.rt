@@ -1,5 +1,5 @@
-ghost use Rattle.std.specs.Prelude.{◌≡◌, ℕ, Bool};
-ghost use Rattle.drafting.specs.Keeping.{keep_answer};
+ghost use Rattle.std.specs.Prelude.{◌≡◌, ℕ, Bool, Ok};
+ghost use Rattle.drafting.specs.Keeping.{checked, keep_answer};
 ghost use Rattle.offices.specs.Drafting.{Answer, over_after};
 ghost use Rattle.offices.specs.Order.{Order, itself_alone};
 
@@ -34,4 +34,18 @@ pub trait Seniority {
         ensures stored { stored self.old senior junior result self.new };
 
     ghost order: { (x : Self) → Order 64 (over x) };
+}
+
+// Whether a kind may store a pair, where `circle` says whether the junior is over the senior. (It does not ask the
+// kind itself: `keep` calls it, and the check makes no proof of a circle of calls through a trait.)
+pub fn storable(senior: u8, junior: u8, circle: bool) -> Result<(), Refusal>
+    ensures { result ≡ checked circle (Ok tt) senior junior }
+{
+    if senior >= 64 || junior >= 64 {
+        return Err(Refusal::NoSuchRole);
+    }
+    if circle {
+        return Err(Refusal::Circular);
+    }
+    Ok(())
 }

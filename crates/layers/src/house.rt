@@ -3,7 +3,7 @@ ghost use Rattle.layers.specs.Answering.{Answers};
 ghost use Rattle.layers.specs.Shown.{housed_as};
 ghost use Rattle.offices.specs.Drafting.{set_answer, after_set};
 ghost use Rattle.offices.specs.Bases.{table_roles, table_sets};
-ghost use Rattle.offices.proofs.Props.{shaped_from};
+ghost use Rattle.offices.proofs.Lawfulness.{table_shaped};
 ghost use Rattle.layers.specs.HouseSets.{house_lawful};
 
 use answers::Refusal;
@@ -89,7 +89,7 @@ impl<O: Office> Office for HouseRules<O> {
 
     ghost lawful = { λ x.
         let t = x.own in
-        house_lawful (O.Office.model x.below) (table_roles t) (table_sets t) (O.Office.lawful x.below) (shaped_from t.roles t.count t.sets t.shaped) };
+        house_lawful (O.Office.model x.below) (table_roles t) (table_sets t) (O.Office.lawful x.below) (table_shaped t) };
 
     fn role_count(&self) -> u8 {
         self.below.role_count()

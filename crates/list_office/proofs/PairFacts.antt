@@ -5,21 +5,17 @@ use Rattle.std.proofs.lemmas.Bool.{or_cases, or_left, or_right, and_parts, and_f
 use Rattle.offices.specs.Order.{Order, Closes, itself_alone, grown}
 use Rattle.offices.specs.Members.{holds, row_holds}
 use Rattle.offices.specs.declared.role_set.RoleSet.{RoleSet}
-use Rattle.offices.proofs.Bit.{or_false, and_true}
+use Rattle.std.proofs.Math.Bool.{or-false, and-true, or_assoc}
 use Rattle.offices.proofs.Closing.{alone_order, closes_none, closes_more, closes_same, grown_order}
 use Rattle.offices.proofs.RowFacts.{row_set_same, row_set_other}
 use Rattle.list_office.specs.declared.pair.Pair.{Pair}
 use Rattle.list_office.specs.Pairs.{has_pair, closed_by, Rows, Acyclic}
 
-or_swap : (x y z : Bool) → (x || (y || z)) ≡ ((x || y) || z)
-or_swap true y z = refl
-or_swap false y z = refl
-
 pub has_push : (ps : List Pair) (p : Pair) (a b : ℕ) → has_pair (ps ++ (p ∷ [])) a b ≡ (has_pair ps a b || (eqb a p.senior && eqb b p.junior))
-has_push [] p a b = or_false (eqb a p.senior && eqb b p.junior)
+has_push [] p a b = or-false (eqb a p.senior && eqb b p.junior)
 has_push (q ∷ qs) p a b =
     ap (λ x. (eqb a q.senior && eqb b q.junior) || x) (has_push qs p a b)
-    ∙ or_swap (eqb a q.senior && eqb b q.junior) (has_pair qs a b) (eqb a p.senior && eqb b p.junior)
+    ∙ sym (or_assoc (eqb a q.senior && eqb b q.junior) (has_pair qs a b) (eqb a p.senior && eqb b p.junior))
 
 pub closed_none : (n : ℕ) → closed_by n [] ≡ itself_alone n
 unfolding closed_by
@@ -90,7 +86,7 @@ module _ (n : ℕ) where
 pub rows_push : (rows : List RoleSet) (ps : List Pair) (p : Pair) (row : RoleSet) → p.senior < length rows → p.junior < 64 → Rows (row_holds rows) ps → ((i : ℕ) → holds row i ≡ (row_holds rows p.senior i || (eqb i p.junior && ltb p.junior 64))) → Rows (row_holds (set rows p.senior row)) (ps ++ (p ∷ []))
 rows_push rows ps p row ls lj was told a b = ⊎_elim
     (λ e. subst (λ x. row_holds (set rows p.senior row) x b ≡ has_pair (ps ++ (p ∷ [])) x b) (sym e) here)
-    (λ ne. row_set_other rows p.senior row a b ne ∙ was a b ∙ sym (has_push ps p a b ∙ ap (λ x. has_pair ps a b || (x && eqb b p.junior)) (ne_eqb a p.senior ne) ∙ or_false (has_pair ps a b)))
+    (λ ne. row_set_other rows p.senior row a b ne ∙ was a b ∙ sym (has_push ps p a b ∙ ap (λ x. has_pair ps a b || (x && eqb b p.junior)) (ne_eqb a p.senior ne) ∙ or-false (has_pair ps a b)))
     (cases_eq a p.senior)
   where
     s : ℕ
@@ -101,5 +97,5 @@ rows_push rows ps p row ls lj was told a b = ⊎_elim
         row_set_same rows p.senior row b ls
         ∙ told b
         ∙ ap₂ (λ x y. x || (eqb b p.junior && y)) (was p.senior b) (lt-ltb p.junior 64 lj)
-        ∙ ap (λ x. has_pair ps p.senior b || x) (and_true (eqb b p.junior))
+        ∙ ap (λ x. has_pair ps p.senior b || x) (and-true (eqb b p.junior))
         ∙ sym (has_push ps p p.senior b ∙ ap (λ x. has_pair ps p.senior b || (x && eqb b p.junior)) (eq-eqb p.senior p.senior refl))

@@ -4,11 +4,11 @@ use Rattle.answers.specs.declared.Refusal.TheVariants.{PairsFull}
 use Rattle.offices.specs.Drafting.{Answer}
 use Rattle.list_office.specs.declared.pair.Pair.{Pair}
 use Rattle.list_office.specs.declared.list.PairList.{PairList}
-use Rattle.list_office.specs.Pairs.{kept_pairs, closed_by}
+use Rattle.list_office.specs.Pairs.{closed_by}
 
 -- the pairs stored, in the order in which they came
 abbrev pub pairs_in : PairList → List Pair
-pairs_in l = kept_pairs l.count l.pairs
+pairs_in l = l.pairs.items
 
 abbrev pub list_over : PairList → ℕ → ℕ → Bool
 list_over l = closed_by 64 (pairs_in l)

@@ -1,11 +1,7 @@
 -- Lists of pairs, and the seniority that follows from them.
-use Rattle.std.specs.Prelude.{◌≡◌, ℕ, ◌<◌, Bool, true, false, ◌&&◌, ◌||◌, List, [], ◌∷◌, take, fold, ◌==◌}
+use Rattle.std.specs.Prelude.{◌≡◌, ℕ, ◌<◌, Bool, true, false, ◌&&◌, ◌||◌, List, [], ◌∷◌, fold, ◌==◌}
 use Rattle.offices.specs.Order.{Order, itself_alone, grown}
 use Rattle.list_office.specs.declared.pair.Pair.{Pair}
-
--- the pairs in the first places
-abbrev pub kept_pairs : ℕ → List Pair → List Pair
-kept_pairs count pairs = take count pairs
 
 -- the pair of a and b is among these
 abbrev pub has_pair : List Pair → ℕ → ℕ → Bool

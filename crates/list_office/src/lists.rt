@@ -7,7 +7,8 @@ ghost use Rattle.list_office.specs.PairProps.{steps_inside, acyclic_from};
 use crate::list::PairList;
 use crate::pair::Pair;
 use answers::Refusal;
-use drafting::Seniority;
+use arrayvec::ArrayVec;
+use drafting::{Seniority, storable};
 use offices::RoleSet;
 use search::{Graph, best_chain};
 
@@ -26,10 +27,7 @@ impl Graph for PairList {
     }
 
     fn step(&self, from: usize, to: usize) -> bool {
-        if from >= 64 {
-            return false;
-        }
-        if to >= 64 {
+        if from >= 64 || to >= 64 {
             return false;
         }
         self.juniors[from].contains(to as u8)
@@ -48,13 +46,8 @@ impl Seniority for PairList {
     ghost order = { λ x. (acyclic_from 64 (pairs_in x) x.order).order };
 
     fn alone() -> PairList {
-        let none = Pair {
-            senior: 0,
-            junior: 0,
-        };
         PairList {
-            count: 0,
-            pairs: [none; 128],
+            pairs: ArrayVec::new(),
             juniors: [RoleSet::empty(); 64],
         }
     }
@@ -81,23 +74,13 @@ impl Seniority for PairList {
     }
 
     fn keep(&mut self, senior: u8, junior: u8) -> Result<(), Refusal> {
-        if senior >= 64 {
-            return Err(Refusal::NoSuchRole);
-        }
-        if junior >= 64 {
-            return Err(Refusal::NoSuchRole);
-        }
-        if self.is_over(junior, senior) {
-            return Err(Refusal::Circular);
-        }
-        let at = self.count;
-        if at >= 128 {
+        storable(senior, junior, self.is_over(junior, senior))?;
+        if self.pairs.is_full() {
             return Err(Refusal::PairsFull);
         }
         let below = self.juniors[senior as usize].with(junior);
         self.juniors[senior as usize] = below;
-        self.pairs[at as usize] = Pair { senior, junior };
-        self.count = at + 1;
+        self.pairs.push(Pair { senior, junior });
         Ok(())
     }
 }

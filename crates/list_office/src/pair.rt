@@ -1,5 +1,5 @@
 // A role and one that it is over.
-#[derive(Clone, Copy)]
+#[derive(Clone, Copy, Default)]
 pub struct Pair {
     pub senior: u8,
     pub junior: u8,

@@ -6,8 +6,9 @@ ghost use Rattle.offices.proofs.Props.{order_from};
 
 use crate::matrix::Matrix;
 use answers::Refusal;
-use drafting::Seniority;
+use drafting::{Seniority, storable};
 use offices::RoleSet;
+use std::array;
 
 // Each role that is over `senior` is now over the roles of `below` too.
 fn absorb(rows: &mut [RoleSet], senior: u8, below: RoleSet)
@@ -24,11 +25,7 @@ fn absorb(rows: &mut [RoleSet], senior: u8, below: RoleSet)
 fn diagonal() -> [RoleSet; 64]
     ensures { (a b : ℕ) → row_holds result a b ≡ itself_alone 64 a b }
 {
-    let mut rows = [RoleSet::empty(); 64];
-    for role in 0..64u8 {
-        rows[role as usize] = RoleSet::empty().with(role);
-    }
-    rows
+    array::from_fn(|role| RoleSet::empty().with(role as u8))
 }
 
 impl Seniority for Matrix {
@@ -51,19 +48,9 @@ impl Seniority for Matrix {
     }
 
     fn keep(&mut self, senior: u8, junior: u8) -> Result<(), Refusal> {
-        if senior >= 64 {
-            return Err(Refusal::NoSuchRole);
-        }
-        if junior >= 64 {
-            return Err(Refusal::NoSuchRole);
-        }
+        storable(senior, junior, self.is_over(junior, senior))?;
         let below = self.rows[junior as usize];
-        if below.contains(senior) {
-            return Err(Refusal::Circular);
-        }
-        let mut rows = self.rows;
-        absorb(&mut rows, senior, below);
-        self.rows = rows;
+        absorb(&mut self.rows, senior, below);
         Ok(())
     }
 }

@@ -1,66 +1,69 @@
--- The bits of 0, of a power of two and of an `or`.
-use Rattle.std.proofs.Common.{◌≡◌, ℕ, suc, ◌+◌, ◌-◌, ◌/◌, ◌%◌, ◌^◌, ◌<◌, ◌≤◌, Bool, true, false, ◌&&◌, ◌||◌, eqb, ◌⊎◌, sym, refl, ap, ◌∙◌, inl, inr, ⊎_elim, lt_of_lt_of_le, mod-lt, pow-suc, arith, pow_mono, pow-add}
-use native.Mathlib.Nat.{zero-div, div-eq_of_lt, mul-mod_left, div_self}
-use lib.Bits.{bit_or, bit_and, or_shr, or_mod, and_mask}
-use lib.Pow.{shl-shr}
-use Rattle.std.proofs.lemmas.Nat.{pow_pos, pow_below}
-use Rattle.std.proofs.lemmas.Bool.{cases_order, cases_lt, eq-eqb, ne_eqb}
+-- The bits of 0, of a power of two, and of what the code makes of words.
+use Rattle.std.proofs.Common.{◌≡◌, ℕ, zero, suc, ◌-◌, ◌/◌, ◌^◌, ◌<◌, ◌≤◌, min, max, Bool, true, false, not, ◌&&◌, ◌||◌, eqb, sym, refl, ap, ◌∙◌, ⊎_elim, arith}
+use Rattle.std.specs.Int.{bit_at, bit_not}
+use Rattle.std.proofs.lemmas.Nat.Bits.{bit_at-lt, bit_at-zero, bit_at-pow_same, bit_at-pow_other, bit_at_above, bit_at_and, bit_at_or, bit_at_not, shr_and_one}
+use Rattle.std.proofs.lemmas.Bool.{cases_eq, cases_lt, eq-eqb, ne_eqb}
+use lib.Bits.{bit_and, bit_or}
+use mir.Syntax.{w64}
 use Rattle.offices.specs.Word.{bit}
 
-pub bit_digit : (x : ℕ) → x < 2 → (x ≡ 0) ⊎ (x ≡ 1)
-bit_digit x h = ⊎_elim (λ l. inl (omega arith)) (λ l. inr (omega arith)) (cases_lt x 1)
-
-or_digit : (x y : ℕ) → x < 2 → y < 2 → eqb (bit_or x y) 1 ≡ (eqb x 1 || eqb y 1)
-or_digit x y hx hy =
-    ⊎_elim
-    (λ (ex : x ≡ 0). ⊎_elim (λ (ey : y ≡ 0). rw (ex, ey)) (λ (ey : y ≡ 1). rw (ex, ey)) (bit_digit y hy))
-    (λ (ex : x ≡ 1). ⊎_elim (λ (ey : y ≡ 0). rw (ex, ey)) (λ (ey : y ≡ 1). rw (ex, ey)) (bit_digit y hy))
-    (bit_digit x hx)
+-- two tests of two digits agree where they agree at each
+alike : (f g : ℕ → ℕ → Bool) → f 0 0 ≡ g 0 0 → f 0 1 ≡ g 0 1 → f 1 0 ≡ g 1 0 → f 1 1 ≡ g 1 1 → (x y : ℕ) → x < 2 → y < 2 → f x y ≡ g x y
+alike f g a b c d zero zero hx hy = a
+alike f g a b c d zero (suc zero) hx hy = b
+alike f g a b c d zero (suc (suc y)) hx hy = absurd (omega arith)
+alike f g a b c d (suc zero) zero hx hy = c
+alike f g a b c d (suc zero) (suc zero) hx hy = d
+alike f g a b c d (suc zero) (suc (suc y)) hx hy = absurd (omega arith)
+alike f g a b c d (suc (suc x)) y hx hy = absurd (omega arith)
 
 pub bit-or : (v w i : ℕ) → bit (bit_or v w) i ≡ (bit v i || bit w i)
 unfolding bit
 bit-or v w i =
-    ap (λ x. eqb (x % 2) 1) (or_shr v w i)
-    ∙ ap (λ x. eqb x 1) (or_mod (v / 2 ^ i) (w / 2 ^ i) 1)
-    ∙ or_digit (v / 2 ^ i % 2) (w / 2 ^ i % 2) (mod-lt (v / 2 ^ i) {m = 2} (omega arith)) (mod-lt (w / 2 ^ i) {m = 2} (omega arith))
+    ap (λ x. eqb x 1) (bit_at_or v w i)
+    ∙ alike (λ x y. eqb (max x y) 1) (λ x y. eqb x 1 || eqb y 1) refl refl refl refl (bit_at v i) (bit_at w i) (bit_at-lt v i) (bit_at-lt w i)
+
+pub bit-and : (v w i : ℕ) → bit (bit_and v w) i ≡ (bit v i && bit w i)
+unfolding bit
+bit-and v w i =
+    ap (λ x. eqb x 1) (bit_at_and v w i)
+    ∙ alike (λ x y. eqb (min x y) 1) (λ x y. eqb x 1 && eqb y 1) refl refl refl refl (bit_at v i) (bit_at w i) (bit_at-lt v i) (bit_at-lt w i)
 
 pub bit_none : (i : ℕ) → bit 0 i ≡ false
 unfolding bit
-bit_none i = rw (zero-div (2 ^ i))
-
-zero_past : (w i : ℕ) → w < 2 ^ i → bit w i ≡ false
-unfolding bit
-zero_past w i h = ap (λ x. eqb (x % 2) 1) (div-eq_of_lt h)
+bit_none i = ap (λ x. eqb x 1) (bit_at-zero i)
 
 pub bit_past : (w k i : ℕ) → w < 2 ^ k → k ≤ i → bit w i ≡ false
-bit_past w k i h le = zero_past w i (lt_of_lt_of_le h (pow_mono le))
-
-higher : (d i : ℕ) → bit (2 ^ (suc d + i)) i ≡ false
 unfolding bit
-higher d i =
-    ap (λ x. eqb (x / 2 ^ i % 2) 1) (pow-add 2 (suc d) i)
-    ∙ ap (λ x. eqb (x % 2) 1) (shl-shr (2 ^ suc d) i)
-    ∙ ap (λ x. eqb (x % 2) 1) (pow-suc 2 d)
-    ∙ ap (λ x. eqb x 1) (mul-mod_left (2 ^ d) 2)
-
-itself : (i : ℕ) → bit (2 ^ i) i ≡ true
-unfolding bit
-itself i = ap (λ x. eqb (x % 2) 1) (div_self (pow_pos i))
+bit_past w k i h le = ap (λ x. eqb x 1) (bit_at_above w k i h le)
 
 pub bit_one : (r i : ℕ) → bit (2 ^ r) i ≡ eqb i r
+unfolding bit
 bit_one r i =
     ⊎_elim
-    (λ (e : i ≡ r). ap (λ x. bit (2 ^ x) i) (sym e) ∙ itself i ∙ sym (eq-eqb i r e))
-    (⊎_elim
-    (λ (l : i < r). let e : r ≡ suc (r - i - 1) + i = omega arith in
-    ap (λ x. bit (2 ^ x) i) e ∙ higher (r - i - 1) i ∙ sym (ne_eqb i r (omega arith)))
-    (λ (l : r < i). zero_past (2 ^ r) i (pow_below r i l) ∙ sym (ne_eqb i r (omega arith))))
-    (cases_order i r)
+    (λ (e : i ≡ r). ap (λ x. eqb (bit_at (2 ^ r) x) 1) e ∙ ap (λ x. eqb x 1) (bit_at-pow_same r) ∙ sym (eq-eqb i r e))
+    (λ (d : i ≡ r → ⊥). ap (λ x. eqb x 1) (bit_at-pow_other r i d) ∙ sym (ne_eqb i r d))
+    (cases_eq i r)
 
 -- the test of the code
 pub bit_test : (w i : ℕ) → eqb (bit_and (w / 2 ^ i) 1) 1 ≡ bit w i
 unfolding bit
-bit_test w i = ap (λ x. eqb x 1) (and_mask (w / 2 ^ i) 1)
+bit_test w i = ap (λ x. eqb x 1) (shr_and_one w i)
+
+turned : (w i : ℕ) → w < 2 ^ 64 → i < 64 → bit (bit_not w64 w) i ≡ not (bit w i)
+unfolding bit
+turned w i h l =
+    ap (λ x. eqb x 1) (bit_at_not w64 w i h l)
+    ∙ alike (λ x y. eqb (1 - x) 1) (λ x y. not (eqb x 1)) refl refl refl refl (bit_at w i) 0 (bit_at-lt w i) (omega arith)
+
+-- what one word has and another lacks
+pub bit_outside : (v w i : ℕ) → v < 2 ^ 64 → w < 2 ^ 64 → bit (bit_and v (bit_not w64 w)) i ≡ (bit v i && not (bit w i))
+bit_outside v w i hv hw =
+    bit-and v (bit_not w64 w) i
+    ∙ ⊎_elim
+    (λ (l : i < 64). ap (λ x. bit v i && x) (turned w i hw l))
+    (λ (l : 64 ≤ i). let none = bit_past v 64 i hv l in ap (λ x. x && bit (bit_not w64 w) i) none ∙ sym (ap (λ x. x && not (bit w i)) none))
+    (cases_lt i 64)
 
 pub or_false : (x : Bool) → (x || false) ≡ x
 or_false true = refl
@@ -69,7 +72,3 @@ or_false false = refl
 pub and_true : (x : Bool) → (x && true) ≡ x
 and_true true = refl
 and_true false = refl
-
-pub and_false : (x : Bool) → (x && false) ≡ false
-and_false true = refl
-and_false false = refl

@@ -1,11 +1,17 @@
 -- An office over a shared part is lawful where its seniority is an order.
 use Rattle.std.proofs.Common.{ℕ, Bool, arith}
-use Rattle.offices.specs.Model.{Lawful}
+use Rattle.std.proofs.lemmas.List.{length-map}
+use Rattle.std.specs.List.{AllByRecursion}
+use Rattle.offices.specs.Model.{Lawful, Shaped}
 use Rattle.offices.specs.Order.{Order}
-use Rattle.offices.specs.Bases.{base_roles, office_with}
+use Rattle.offices.specs.Sets.{set_model}
+use Rattle.offices.specs.Bases.{table_roles, table_sets, base_roles, office_with}
+use Rattle.offices.specs.declared.table.SetTable.{SetTable}
 use Rattle.offices.specs.declared.base.OfficeBase.{OfficeBase}
 use Rattle.offices.proofs.Props.{shaped_from}
-use Rattle.offices.proofs.SetRows.{length_sets}
+
+pub table_shaped : (t : SetTable) → AllByRecursion (Shaped (table_roles t)) (table_sets t)
+table_shaped t = shaped_from (table_roles t) (table_sets t) t.shaped
 
 pub office_lawful : (b : OfficeBase) (over : ℕ → ℕ → Bool) → Order (base_roles b) over → Lawful (office_with b over)
 office_lawful b over o =
@@ -14,6 +20,6 @@ office_lawful b over o =
       few = t.few;
       order = o;
       marks = b.marked;
-      eight = omega (arith, length_sets t.count t.sets (omega arith));
-      shaped = shaped_from t.roles t.count t.sets t.shaped;
+      eight = omega (arith, length-map t.sets.items set_model, t.eight);
+      shaped = table_shaped t;
     }

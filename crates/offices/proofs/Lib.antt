@@ -7,5 +7,4 @@ pub mod PairAnswers
 pub mod Props
 pub mod RowFacts
 pub mod Scanning
-pub mod SetRows
 pub mod SetShape

@@ -5,8 +5,6 @@ use denote.Struct.Props.{props}
 use Rattle.std.specs.List.{AllByRecursion}
 use Rattle.offices.specs.Order.{Order}
 use Rattle.offices.specs.Model.{SetModel, Shaped}
-use Rattle.offices.specs.Sets.{AllShaped, sets_of}
-use Rattle.offices.specs.declared.exclusive.ExclusiveSet.{ExclusiveSet}
 
 same : {A : Type 0} (x y : A) → IsProp A → x ≡ y
 same x y p = p x y
@@ -36,5 +34,5 @@ shaped_prop n s p q = λ i. record {
 pub order_from : (n : ℕ) (over : ℕ → ℕ → Bool) → ∥ Order n over ∥₁ → Order n over
 order_from n over t = ∥∥₁_elim t (order_prop n over) (λ o. o)
 
-pub shaped_from : (n c : ℕ) (xs : List ExclusiveSet) → ∥ AllShaped n c xs ∥₁ → AllShaped n c xs
-shaped_from n c xs t = ∥∥₁_elim t (all_prop (Shaped n) (shaped_prop n) (sets_of c xs)) (λ o. o)
+pub shaped_from : (n : ℕ) (sets : List SetModel) → ∥ AllByRecursion (Shaped n) sets ∥₁ → AllByRecursion (Shaped n) sets
+shaped_from n sets t = ∥∥₁_elim t (all_prop (Shaped n) (shaped_prop n) sets) (λ o. o)

@@ -1,14 +1,11 @@
 -- A set that passes the tests has the shape of an exclusive set.
-use Rattle.std.proofs.Common.{◌≡◌, ℕ, zero, suc, ◌+◌, ◌<◌, ◌≤◌, true, false, not, eqb, ltb, leb, List, [], ◌∷◌, ◌++◌, map, length, get_or, take, set, Ok, Err, sym, refl, ap, ◌∙◌, arith}
+use Rattle.std.proofs.Common.{◌≡◌, ℕ, zero, suc, ◌<◌, ◌≤◌, true, false, not, eqb, ltb, leb, List, [], ◌∷◌, length, get_or, Ok, Err, sym, refl, ap, arith}
 use Rattle.std.specs.List.{AllByRecursion}
 use Rattle.std.proofs.lemmas.Bool.{and_parts, ltb-true, leb-true, eq-eqb, both_ways, not-true, lt-leb}
-use Rattle.std.proofs.lemmas.List.{take_more_set, map_push}
 use Rattle.offices.specs.Drafting.{missing, all_differ, all_below}
 use Rattle.offices.specs.Model.{SetModel, Shaped}
 use Rattle.offices.specs.Drafting.{good_set, set_answer}
 use Rattle.answers.specs.declared.Refusal.TheVariants.{NoSuchRole, BadSet}
-use Rattle.offices.specs.Sets.{set_model, sets_of}
-use Rattle.offices.specs.declared.exclusive.ExclusiveSet.{ExclusiveSet}
 
 exist : (n : ℕ) (ms : List ℕ) → all_below n ms ≡ true → AllByRecursion (λ r. r < n) ms
 exist n [] h = tt
@@ -43,9 +40,6 @@ shaped_good n ms t h b =
 
 pub good_few : (ms : List ℕ) (t : ℕ) → good_set ms t ≡ true → length ms ≤ 8
 good_few ms t h = leb-true (length ms) 8 (and_parts (leb (length ms) 8) _ (and_parts (leb 2 (length ms)) _ h).1).0
-
-pub sets_push : (c : ℕ) (xs : List ExclusiveSet) (s : ExclusiveSet) → c < length xs → sets_of (c + 1) (set xs c s) ≡ sets_of c xs ++ (set_model s ∷ [])
-sets_push c xs s h = ap (map set_model) (take_more_set xs c s h) ∙ map_push set_model (take c xs) s
 
 module _ (n : ℕ) (sets : List SetModel) (ms : List ℕ) (t : ℕ) (room : length sets < 8) where
   open_table : leb 8 (length sets) ≡ false

@@ -1,6 +1,7 @@
 -- Drafting an office: what each call is answered, what it changes, and what the office is
 -- after any list of calls and their answers.
 use Rattle.std.specs.Prelude.{◌≡◌, ℕ, ◌<◌, min, Bool, true, false, cond, not, ◌&&◌, ◌||◌, List, [], ◌∷◌, ◌++◌, length, Ok, Err, Decides, Result, ◌==◌, nat_le, nat_lt}
+use Rattle.std.specs.List.{list_all}
 use mathlib.Core.List.{Memᴰ}
 use Rattle.answers.specs.declared.Refusal.{Refusal}
 use Rattle.answers.specs.declared.Refusal.TheVariants.{NoSuchRole, Circular, BadSet, SetsFull}
@@ -82,8 +83,7 @@ after_mark (Err e) m role = m
 
 -- x is not among these
 abbrev pub missing : ℕ → List ℕ → Bool
-missing x [] = true
-missing x (y ∷ ys) = not (y == x) && missing x ys
+missing x = list_all (λ y. not (y == x))
 
 -- no role is repeated
 abbrev pub all_differ : List ℕ → Bool
@@ -91,8 +91,7 @@ all_differ [] = true
 all_differ (x ∷ xs) = missing x xs && all_differ xs
 
 abbrev pub all_below : ℕ → List ℕ → Bool
-all_below n [] = true
-all_below n (x ∷ xs) = nat_lt x n && all_below n xs
+all_below n = list_all (λ x. nat_lt x n)
 
 -- 2 to 8 different roles, and a bound from 2 to their number
 abbrev pub good_set : List ℕ → ℕ → Bool

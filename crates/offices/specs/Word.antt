@@ -1,5 +1,6 @@
 -- The bits of a number.
-use Rattle.std.specs.Prelude.{ℕ, ◌/◌, ◌%◌, ◌^◌, Bool, ◌==◌}
+use Rattle.std.specs.Prelude.{ℕ, Bool, ◌==◌}
+use Rattle.std.specs.Int.{bit_at}
 
 unfoldable pub bit : ℕ → ℕ → Bool
-bit w i = w / 2 ^ i % 2 == 1
+bit w i = bit_at w i == 1

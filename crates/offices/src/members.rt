@@ -1,38 +1,20 @@
 ghost use Rattle.std.specs.Prelude.{◌≡◌};
-ghost use Rattle.offices.specs.Drafting.{missing, all_differ, all_below, good_set};
-
-fn absent(role: u8, members: &[u8]) -> bool
-    ensures { result ≡ missing role members.now }
-{
-    for other in members {
-        if *other == role {
-            return false;
-        }
-    }
-    true
-}
+ghost use Rattle.offices.specs.Drafting.{all_differ, all_below, good_set};
 
 fn distinct(members: &[u8]) -> bool
     ensures { result ≡ all_differ members.now }
 {
-    for i in 0..members.len() {
-        if !absent(members[i], &members[i + 1..]) {
-            return false;
-        }
+    match members.split_first() {
+        Some((first, rest)) => !rest.contains(first) && distinct(rest),
+        None => true,
     }
-    true
 }
 
 // Whether each role is below `roles`.
 pub(crate) fn exist(members: &[u8], roles: u8) -> bool
     ensures { result ≡ all_below roles members.now }
 {
-    for role in members {
-        if *role >= roles {
-            return false;
-        }
-    }
-    true
+    members.iter().all(|role| *role < roles)
 }
 
 // Whether size, roles and bound are those of an exclusive set.

@@ -47,9 +47,8 @@ impl RoleSet {
         if role >= 64 {
             return self;
         }
-        let one: u64 = 1 << role;
         RoleSet {
-            word: (self.word | one) ^ one,
+            word: self.word & !(1 << role),
         }
     }
 
@@ -57,7 +56,7 @@ impl RoleSet {
     pub fn first_outside(self, other: RoleSet) -> Option<u8>
         ensures { FirstOutside self other result }
     {
-        let outside = (self.word | other.word) ^ other.word;
+        let outside = self.word & !other.word;
         if outside == 0 {
             return None;
         }

@@ -7,7 +7,7 @@ use denote.Struct.Props.{props}
 use Rattle.offices.proofs.Props.{order_prop}
 use native.Mathlib.Omega.{arith}
 use Rattle.std.proofs.lemmas.List.{get_or-set_same, get_or-set_other}
-use Rattle.offices.proofs.Bit.{or_false}
+use Rattle.std.proofs.Math.Bool.{or-false}
 use Rattle.std.proofs.lemmas.Bool.{and_from, and_right, cond-true, cond-false, cases_Bool, both_ways, or_right, lt-ltb, le-ltb, cases_lt, eq-eqb, ne_eqb, cases_eq}
 use Rattle.offices.specs.Order.{Order, grown, itself_alone}
 use Rattle.offices.proofs.Closing.{grown_order, alone_order}
@@ -162,7 +162,7 @@ climb_none up k a b e = ap (λ f. climb f up a b) e
 module _ (n : ℕ) (up : ℕ → Option ℕ) (bare : (b : ℕ) → up b ≡ None) where
   bare_law : TreeLaw n up (itself_alone n)
   bare_law = record {
-    step = λ a b l. alike a b l ∙ sym (ap (λ u. (a == b) || on u (itself_alone n a)) (bare b) ∙ or_false (a == b));
+    step = λ a b l. alike a b l ∙ sym (ap (λ u. (a == b) || on u (itself_alone n a)) (bare b) ∙ or-false (a == b));
     placed = λ b p e. let f = bare b in let z : ◌≡◌ {A = ℕ} 0 1 = cc in absurd (omega arith);
   }
     where

@@ -5,7 +5,7 @@ ghost use Rattle.tree_office.specs.Climbing.{grows_from};
 
 use crate::tree::Tree;
 use answers::Refusal;
-use drafting::Seniority;
+use drafting::{Seniority, storable};
 
 impl Tree {
     // The direct senior of a role.
@@ -13,11 +13,7 @@ impl Tree {
         ensures value { result ≡ senior_in self.now role }
         ensures tree { TreeLaw 64 (senior_in self.now) (climbed self.now) }
     {
-        if role < 64 {
-            self.seniors[role as usize]
-        } else {
-            None
-        }
+        *self.seniors.get(role as usize)?
     }
 }
 
@@ -48,24 +44,16 @@ impl Seniority for Tree {
             if at == senior {
                 return true;
             }
-            match self.senior(at) {
-                Some(next) => at = next,
-                None => return false,
-            }
+            let Some(next) = self.senior(at) else {
+                return false;
+            };
+            at = next;
         }
         false
     }
 
     fn keep(&mut self, senior: u8, junior: u8) -> Result<(), Refusal> {
-        if senior >= 64 {
-            return Err(Refusal::NoSuchRole);
-        }
-        if junior >= 64 {
-            return Err(Refusal::NoSuchRole);
-        }
-        if self.is_over(junior, senior) {
-            return Err(Refusal::Circular);
-        }
+        storable(senior, junior, self.is_over(junior, senior))?;
         if self.senior(junior).is_some() {
             return Err(Refusal::SeniorTaken);
         }

@@ -1,4 +1,5 @@
-use Rattle.std.proofs.Common.{◌≡◌, ℕ, ◌<◌, ◌≤◌, Bool, true, false, Ok, sym, refl, ap, ◌∙◌, ⊎_elim, arith}
+use Rattle.std.proofs.Common.{◌≡◌, ◌<◌, Bool, true, false, Ok, sym, refl, ap, ◌∙◌, ⊎_elim, arith}
+use Rattle.std.specs.Bool.{MatchBool}
 use Rattle.std.proofs.lemmas.Bool.{cases_Bool}
 use Rattle.answers.specs.declared.Refusal.TheVariants.{NoSuchRole, Circular}
 use Rattle.offices.specs.Order.{within, grown}
@@ -6,50 +7,37 @@ use Rattle.offices.specs.Bases.{base_roles, office_with}
 use Rattle.offices.specs.Drafting.{pair}
 use Rattle.offices.proofs.Closing.{grown_same}
 use Rattle.offices.proofs.Histories.{keeps_refused, keeps_pair, keeps_to}
-use Rattle.offices.proofs.PairAnswers.{answer_senior, answer_junior, answer_same, answer_follows}
-use Rattle.drafting.specs.Keeping.{Either}
+use Rattle.offices.proofs.PairAnswers.{answer_same, answer_follows}
 use Rattle.drafting.specs.Models.{office_of}
 use Rattle.drafting.specs.Within.{within_at, within_order, answer_kept, not_settled, settled_senior, settled_junior, settled_same, settled_known, office_after}
 use Rattle.drafting.proofs.draft.Draft.pair.Goals as goal
 
 -- what a test that is known says of the one or the other
-first_of : (b : Bool) (P Q : Type 0) → b ≡ true → P → Either b P Q
+first_of : (b : Bool) (P Q : Type 0) → b ≡ true → P → MatchBool b P Q
 first_of true P Q e p = p
-first_of false P Q e p = let z : ◌≡◌ {A = ℕ} 0 1 = cc in absurd (omega arith)
+first_of false P Q e p = cc
 
-second_of : (b : Bool) (P Q : Type 0) → b ≡ false → Q → Either b P Q
+second_of : (b : Bool) (P Q : Type 0) → b ≡ false → Q → MatchBool b P Q
 second_of false P Q e q = q
-second_of true P Q e q = let z : ◌≡◌ {A = ℕ} 0 1 = cc in absurd (omega arith)
+second_of true P Q e q = cc
 
-pub returns-then-senior-roles : goal.returns-then-senior-roles
-returns-then-senior-roles g c =
+pub returns-then-senior-roles-clause-kind : goal.returns-then-senior-roles-clause-kind
+returns-then-senior-roles-clause-kind g c =
     let d = c.args.self.now.office in
-    let s = c.args.senior in
-    let j = c.args.junior in
     let n = base_roles d.base in
-    let over = g.S.Seniority.over d.seniority in
-    let out : n ≤ s = omega arith in
-    record {
-      answer = answer_senior n (within n over) (g.S.Seniority.own d.seniority s j) s j out;
-      after = refl;
-      kind = first_of _ _ _ (settled_senior n (within n over) s j out) refl;
-      history = keeps_refused (office_of d.base over) (pair s j) NoSuchRole;
-    }
+    let seen = within n (g.S.Seniority.over d.seniority) in
+    let e : c.role_count-roles.result ≡ n = c.role_count-roles.ensures in
+    first_of _ _ _
+    (⊎_elim
+    (λ out. settled_senior n seen c.args.senior c.args.junior (omega arith))
+    (λ out. settled_junior n seen c.args.senior c.args.junior (omega (arith, out.1)))
+    c.then-senior-roles.either)
+    refl
 
-pub returns-then-junior-roles : goal.returns-then-junior-roles
-returns-then-junior-roles g c =
+pub returns-then-senior-roles-clause-history : goal.returns-then-senior-roles-clause-history
+returns-then-senior-roles-clause-history g c =
     let d = c.args.self.now.office in
-    let s = c.args.senior in
-    let j = c.args.junior in
-    let n = base_roles d.base in
-    let over = g.S.Seniority.over d.seniority in
-    let out : n ≤ j = omega arith in
-    record {
-      answer = answer_junior n (within n over) (g.S.Seniority.own d.seniority s j) s j out;
-      after = refl;
-      kind = first_of _ _ _ (settled_junior n (within n over) s j out) refl;
-      history = keeps_refused (office_of d.base over) (pair s j) NoSuchRole;
-    }
+    keeps_refused (office_of d.base (g.S.Seniority.over d.seniority)) (pair c.args.senior c.args.junior) NoSuchRole
 
 pub returns-then-senior-junior : goal.returns-then-senior-junior
 returns-then-senior-junior g c =

@@ -8,6 +8,3 @@ pub invariant_of-result : goal.invariant_of-result
 invariant_of-result c =
     let same = fun_ext (λ a. fun_ext (λ b. c.diagonal.ensures a b)) in
     record { room = search rules; order = ∣ subst (Order 64) (sym same) (alone_order 64) ∣₁ }
-
-pub returns : goal.returns
-returns c = record { over = fun_ext (λ a. fun_ext (λ b. c.diagonal.ensures a b)); blank = tt }

@@ -6,7 +6,7 @@ use Rattle.offices.specs.Model.{OfficeModel}
 use Rattle.offices.specs.Drafting.{share}
 use Rattle.offices.specs.Bases.{office_with, base_sets}
 use Rattle.offices.specs.Members.{holds}
-use Rattle.offices.proofs.Bit.{and_true}
+use Rattle.std.proofs.Math.Bool.{and-true}
 use Rattle.offices.proofs.Histories.{keeps_refused, keeps_share, keeps_to}
 use Rattle.offices.proofs.base.OfficeBase.share.Goals as goal
 
@@ -23,7 +23,7 @@ marked_more c a =
     let small : c.args.role < 64 = omega (arith, c.args.self.now.table.few) in
     c.with-self.ensures a
     ∙ ap (λ x. holds c.args.self.now.shared a || (eqb a c.args.role && x)) (lt-ltb c.args.role 64 small)
-    ∙ ap (λ x. holds c.args.self.now.shared a || x) (and_true (eqb a c.args.role))
+    ∙ ap (λ x. holds c.args.self.now.shared a || x) (and-true (eqb a c.args.role))
 
 pub returns : goal.returns
 returns c =

@@ -1,29 +1,35 @@
-use Rattle.std.proofs.Common.{sym, ap, ◌∙◌, subst, arith}
+use Rattle.std.proofs.Common.{◌≡◌, map, inl, inr, sym, ap, ◌∙◌, subst, arith}
 use Rattle.std.specs.List.{AllByRecursion}
+use Rattle.std.proofs.lemmas.List.{take-map}
 use Rattle.offices.specs.Bases.{table_sets}
 use Rattle.offices.specs.Model.{Shaped}
-use Rattle.offices.specs.Sets.{fitted}
-use Rattle.offices.proofs.Fitted.{fitted_shaped}
-use Rattle.offices.proofs.Props.{shaped_from}
+use Rattle.offices.specs.Sets.{set_model, fitted}
+use Rattle.offices.proofs.Fitted.{cut, fitted_shaped}
+use Rattle.offices.proofs.Lawfulness.{table_shaped}
 use Rattle.offices.proofs.table.SetTable.fit.Goals as goal
+use Rattle.offices.proofs.table.SetTable.fit.Goals.{then-self-roles, else-self-roles}
 
 pub invariant_of-self : goal.invariant_of-self
 invariant_of-self c =
     let d = c.args.self.now in
-    let roles = c.at_most_64-roles.result in
+    let roles = c.min-roles.result in
+    let k = c.if-self-roles.room in
+    let e : map set_model c.truncate.new.self.items ≡ fitted d.roles roles c.args.room (table_sets d) =
+    ap (map set_model) c.truncate.ensures.items ∙ sym (take-map set_model k d.sets.items)
+    ∙ cut d.roles roles c.args.room k (table_sets d)
+    (elim c.if-self-roles.branch [ then-self-roles w ↦ inl (omega arith, omega arith) | else-self-roles w ↦ inr (omega arith, omega arith) ]) in
     record {
-      few = omega (arith, c.at_most_64-roles.ensures);
-      eight = c.keeping-keep.ensures.few;
-      room = d.room;
-      shaped =
-          ∣ subst (AllByRecursion (Shaped roles)) (sym c.keeping-keep.ensures.sets)
-          (fitted_shaped d.roles roles c.args.room (table_sets d) (shaped_from d.roles d.count d.sets d.shaped)) ∣₁;
+      few = omega arith;
+      eight = omega arith;
+      shaped = ∣ subst (AllByRecursion (Shaped roles)) (sym e) (fitted_shaped d.roles roles c.args.room (table_sets d) (table_shaped d)) ∣₁;
     }
 
-pub returns : goal.returns
-returns c =
+pub returns-clause-sets : goal.returns-clause-sets
+returns-clause-sets c =
     let d = c.args.self.now in
-    record {
-      roles = c.at_most_64-roles.ensures;
-      sets = c.keeping-keep.ensures.sets ∙ ap (λ r. fitted d.roles r c.args.room (table_sets d)) c.at_most_64-roles.ensures;
-    }
+    let roles = c.min-roles.result in
+    let k = c.if-self-roles.room in
+    ap (map set_model) c.truncate.ensures.items ∙ sym (take-map set_model k d.sets.items)
+    ∙ cut d.roles roles c.args.room k (table_sets d)
+    (elim c.if-self-roles.branch [ then-self-roles w ↦ inl (omega arith, omega arith) | else-self-roles w ↦ inr (omega arith, omega arith) ])
+    ∙ ap (λ r. fitted d.roles r c.args.room (table_sets d)) c.min-roles.ensures

@@ -11,11 +11,11 @@ returns-then-at-senior c =
     sym (ap₂ (λ x y. x && y) (lt-ltb c.args.junior 64 c.if-junior-ge64.false)
     (c.loop-turn.invariant.1 ∙ climb_found up (64 - c.loop-turn.turn) c.args.senior c.loop-turn.at (omega arith) c.if-at-senior.true))
 
-pub returns-in-None : goal.returns-in-None
-returns-in-None c =
+pub returns-in_default : goal.returns-in_default
+returns-in_default c =
     let up = senior_in c.args.self.now in
     sym (ap₂ (λ x y. x && y) (lt-ltb c.args.junior 64 c.if-junior-ge64.false)
-    (c.loop-turn.invariant.1 ∙ climb_top up (64 - c.loop-turn.turn) c.args.senior c.loop-turn.at (omega arith) c.if-at-senior.false (sym c.in-None.ensures.value)))
+    (c.loop-turn.invariant.1 ∙ climb_top up (64 - c.loop-turn.turn) c.args.senior c.loop-turn.at (omega arith) c.if-at-senior.false (sym c.in_default.ensures.value)))
 
 pub loop-turn-preserved : goal.loop-turn-preserved
 loop-turn-preserved c =
