@@ -1,2 +1,3 @@
 pub mod HouseDrafts
+pub mod OwnSets
 pub mod Withholding

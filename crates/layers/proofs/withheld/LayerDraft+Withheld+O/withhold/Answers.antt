@@ -3,7 +3,7 @@ use Rattle.std.proofs.lemmas.Bool.{cond_below}
 use Rattle.answers.specs.declared.Refusal.TheVariants.{NoSuchRole}
 use Rattle.offices.specs.Members.{holds}
 use Rattle.layers.proofs.Withholding.{withheld_more}
-use Rattle.layers.proofs.withheld.WithheldDraft.withhold.Goals as goal
+use Rattle.layers.proofs.withheld.LayerDraft+Withheld+O.withhold.Goals as goal
 
 pub returns : goal.returns
 returns g c =

@@ -1,7 +1,7 @@
 use Rattle.std.proofs.Common.{refl}
 use Rattle.offices.specs.Bases.{table_roles, table_sets}
 use Rattle.layers.proofs.HouseDrafts.{house_none}
-use Rattle.layers.proofs.house.HouseDraft.new.Goals as goal
+use Rattle.layers.proofs.house.LayerDraft+HouseRules+O.new.Goals as goal
 
 pub returns : goal.returns
 returns g c =

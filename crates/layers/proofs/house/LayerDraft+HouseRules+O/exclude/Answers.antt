@@ -4,7 +4,7 @@ use Rattle.offices.specs.Sets.{fitted}
 use Rattle.offices.specs.Drafting.{set_answer}
 use Rattle.layers.specs.Layers.{fitting, house_model}
 use Rattle.layers.proofs.HouseDrafts.{room_left, as_fitted, too_many, same_answer, set_more}
-use Rattle.layers.proofs.house.HouseDraft.exclude.Goals as goal
+use Rattle.layers.proofs.house.LayerDraft+HouseRules+O.exclude.Goals as goal
 
 pub overflow_add-sets : goal.overflow_add-sets
 overflow_add-sets g c =
