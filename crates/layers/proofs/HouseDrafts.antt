@@ -9,43 +9,49 @@ use Rattle.layers.specs.Layers.{fitting, house_model}
 use Rattle.offices.proofs.Fitted as F
 use Rattle.layers.specs.HouseSets.{length_house}
 
--- an office m, with own sets that were just fitted to it
-module _ (m : OfficeModel) (own : List SetModel) where
-  whole : length m.sets + length own ≤ 8 → fitting m m.roles own ≡ own
-  whole h = F.fits m.roles m.roles (8 - length m.sets) own (le_refl m.roles) ∙ take_all (8 - length m.sets) own (omega arith)
+-- past the room for sets, the answers to one
+checked : ℕ → List ℕ → ℕ → Bool → Answer
+checked n ms t full = cond full (Err SetsFull) (cond (good_set ms t) (cond (all_below n ms) (Ok tt) (Err NoSuchRole)) (Err BadSet))
 
+pub too_many : (n : ℕ) (sets : List SetModel) (ms : List ℕ) (t : ℕ) → 8 ≤ length sets → Err SetsFull ≡ set_answer n sets ms t
+unfolding checked
+too_many n sets ms t h = sym (ap (checked n ms t) (le-leb 8 (length sets) h))
+
+pub same_answer : (n : ℕ) (xs ys : List SetModel) (ms : List ℕ) (t : ℕ) → length xs < 8 → length ys < 8 → set_answer n xs ms t ≡ set_answer n ys ms t
+unfolding checked
+same_answer n xs ys ms t h k = ap (checked n ms t) (lt-leb 8 (length xs) h ∙ sym (lt-leb 8 (length ys) k))
+
+module _ (m : OfficeModel) where
   with_sets : List SetModel → OfficeModel
   with_sets ss = record { roles = m.roles; over = m.over; shared = m.shared; sets = m.sets ++ ss }
 
-  pub room_left : (n : ℕ) (old : List SetModel) → own ≡ fitting m n old → length m.sets ≤ 8 → length m.sets + length own ≤ 8
-  room_left n old e h = omega (arith, length_house m n old h, length-append m.sets (fitting m n old), ap length e)
+  -- own sets that were made for these roles, and for which there is room, all count
+  pub whole : (own : List SetModel) → length m.sets + length own ≤ 8 → fitting m m.roles own ≡ own
+  whole own h = F.fits m.roles m.roles (8 - length m.sets) own (le_refl m.roles) ∙ take_all (8 - length m.sets) own (omega arith)
 
-  pub as_fitted : (n : ℕ) (old : List SetModel) → own ≡ fitting m n old → length m.sets + length own ≤ 8 → house_model m m.roles own ≡ house_model m n old
+  all_count : (own : List SetModel) → length m.sets + length own ≤ 8 → house_model m m.roles own ≡ with_sets own
   unfolding with_sets
-  as_fitted n old e h = ap with_sets (whole h ∙ e)
+  all_count own h = ap with_sets (whole own h)
 
-  pub too_many : (n : ℕ) (old : List SetModel) (ms : List ℕ) (t : ℕ) → own ≡ fitting m n old → 8 ≤ length m.sets + length own → Err SetsFull ≡ set_answer m.roles (house_model m n old).sets ms t
-  too_many n old ms t e h =
-      let l : length (m.sets ++ fitting m n old) ≡ length m.sets + length own = length-append m.sets (fitting m n old) ∙ ap (λ ss. length m.sets + length ss) (sym e) in
-      let b : leb 8 (length (m.sets ++ fitting m n old)) ≡ true = le-leb 8 (length (m.sets ++ fitting m n old)) (omega arith) in
-      sym (ap (λ x. cond x (Err SetsFull) (cond (good_set ms t) (cond (all_below m.roles ms) (Ok tt) (Err NoSuchRole)) (Err BadSet))) b)
+  pub length_whole : (own : List SetModel) → length m.sets + length own ≤ 8 → length (house_model m m.roles own).sets ≡ length m.sets + length own
+  length_whole own h = ap (λ ss. length (m.sets ++ ss)) (whole own h) ∙ length-append m.sets own
 
-  pub same_answer : (n : ℕ) (old : List SetModel) (ms : List ℕ) (t : ℕ) → own ≡ fitting m n old → length m.sets + length own < 8 → set_answer m.roles own ms t ≡ set_answer m.roles (house_model m n old).sets ms t
-  same_answer n old ms t e h =
-      let l : length (m.sets ++ fitting m n old) ≡ length m.sets + length own = length-append m.sets (fitting m n old) ∙ ap (λ ss. length m.sets + length ss) (sym e) in
-      let a : leb 8 (length own) ≡ false = lt-leb 8 (length own) (omega arith) in
-      let b : leb 8 (length (m.sets ++ fitting m n old)) ≡ false = lt-leb 8 (length (m.sets ++ fitting m n old)) (omega arith) in
-      ap (λ x. cond x (Err SetsFull) (cond (good_set ms t) (cond (all_below m.roles ms) (Ok tt) (Err NoSuchRole)) (Err BadSet))) (a ∙ sym b)
+  pub room_left : (n : ℕ) (old : List SetModel) → length m.sets ≤ 8 → length m.sets + length (fitting m n old) ≤ 8
+  room_left n old h = omega (arith, length_house m n old h, length-append m.sets (fitting m n old))
 
-  pub set_more : (n : ℕ) (old new : List SetModel) (r : Answer) (ms : List ℕ) (t : ℕ) → own ≡ fitting m n old → length m.sets + length own < 8 → new ≡ with_set r own ms t → house_model m m.roles new ≡ after_set r (house_model m n old) ms t
+  pub as_fitted : (n : ℕ) (old : List SetModel) → length m.sets ≤ 8 → house_model m m.roles (fitting m n old) ≡ house_model m n old
   unfolding with_sets
-  set_more n old new (Ok u) ms t e h f =
+  as_fitted n old h = all_count (fitting m n old) (room_left n old h)
+
+  pub set_more : (own new : List SetModel) (r : Answer) (ms : List ℕ) (t : ℕ) → length m.sets + length own < 8 → new ≡ with_set r own ms t → house_model m m.roles new ≡ after_set r (house_model m m.roles own) ms t
+  unfolding with_sets
+  set_more own new (Ok u) ms t h f =
       let s : SetModel = record { members = ms; bound = t } in
       ap (house_model m m.roles) f
-      ∙ ap with_sets (F.fits m.roles m.roles (8 - length m.sets) (own ++ (s ∷ [])) (le_refl m.roles) ∙ take_all (8 - length m.sets) (own ++ (s ∷ [])) (omega (arith, length_push own s)))
-      ∙ ap (λ (ss : List SetModel). with_sets (ss ++ (s ∷ []))) e
-      ∙ ap (λ (ss : List SetModel). record { roles = m.roles; over = m.over; shared = m.shared; sets = ss }) (sym (append_assoc m.sets (fitting m n old) (s ∷ [])))
-  set_more n old new (Err x) ms t e h f = ap (house_model m m.roles) f ∙ as_fitted n old e (omega arith)
+      ∙ all_count (own ++ (s ∷ [])) (omega (arith, length_push own s))
+      ∙ ap (λ (ss : List SetModel). record { roles = m.roles; over = m.over; shared = m.shared; sets = ss })
+      (sym (append_assoc m.sets own (s ∷ [])) ∙ ap (λ (ss : List SetModel). (m.sets ++ ss) ++ (s ∷ [])) (sym (whole own (omega arith))))
+  set_more own new (Err x) ms t h f = ap (house_model m m.roles) f
 
 abbrev no_sets : List SetModel
 no_sets = []

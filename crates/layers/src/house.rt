@@ -1,4 +1,4 @@
-ghost use Rattle.std.specs.Prelude.{◌≡◌};
+ghost use Rattle.std.specs.Prelude.{◌≡◌, ◌+◌, ◌≤◌, length};
 ghost use Rattle.layers.specs.Answering.{Answers};
 ghost use Rattle.layers.specs.Shown.{housed_as};
 ghost use Rattle.offices.specs.Drafting.{set_answer, after_set};
@@ -38,10 +38,8 @@ impl<O: Office> LayerDraft<HouseRules<O>> {
         ensures after { housed_as O.model self.new.layer ≡ after_set result (housed_as O.model self.old.layer) members.now bound }
         ensures below { self.new.layer.below ≡ self.old.layer.below }
     {
-        let roles = self.layer.below.role_count();
-        let sets = self.layer.below.set_count();
-        self.layer.own.fit(roles, 8 - sets);
-        if sets + self.layer.own.len() >= 8 {
+        self.layer.fit();
+        if self.layer.set_count() >= 8 {
             return Err(Refusal::SetsFull);
         }
         self.layer.own.add(members, bound)
@@ -49,6 +47,18 @@ impl<O: Office> LayerDraft<HouseRules<O>> {
 }
 
 impl<O: Office> HouseRules<O> {
+    // Lets go of the own sets that do not count, so that each that is left does.
+    fn fit(&mut self)
+        ensures model { housed_as O.model self.new ≡ housed_as O.model self.old }
+        ensures below { self.new.below ≡ self.old.below }
+        ensures roles { self.new.own.roles ≡ (O.model self.old.below).roles }
+        ensures room { length (O.model self.old.below).sets + length (table_sets self.new.own) ≤ 8 }
+    {
+        let roles = self.below.role_count();
+        let room = 8 - self.below.set_count();
+        self.own.fit(roles, room);
+    }
+
     // The place in the own table of the set that answers. For any other the office below answers: the set is its
     // own, or it has none.
     fn own_place(&self, set: u8) -> Option<u8>
@@ -85,8 +95,7 @@ impl<O: Office> Office for HouseRules<O> {
         if self.own.roles() > self.below.role_count() {
             return lower;
         }
-        let own = self.own.len();
-        if own <= 8 - lower { lower + own } else { 8 }
+        lower.saturating_add(self.own.len()).min(8)
     }
 
     fn set_bound(&self, set: u8) -> u8 {

@@ -1,57 +1,38 @@
-use Rattle.std.proofs.Common.{◌≡◌, ◌+◌, ◌-◌, ◌≤◌, min, length, refl, ap, ◌∙◌, ap₂, arith}
-use Rattle.offices.specs.Bases.{table_roles, table_sets}
-use Rattle.offices.specs.Sets.{fitted}
-use Rattle.offices.specs.Drafting.{set_answer}
-use Rattle.layers.specs.Layers.{fitting, house_model}
-use Rattle.layers.proofs.HouseDrafts.{room_left, as_fitted, too_many, same_answer, set_more}
+use Rattle.std.proofs.Common.{◌≡◌, length, sym, ap, ap₂, ◌∙◌, arith}
+use Rattle.offices.specs.Bases.{table_sets}
+use Rattle.offices.specs.Drafting.{set_answer, after_set}
+use Rattle.layers.specs.Layers.{house_model}
+use Rattle.layers.specs.Shown.{housed_as}
+use Rattle.layers.proofs.HouseDrafts.{too_many, same_answer, length_whole, set_more}
 use Rattle.layers.proofs.house.LayerDraft+HouseRules+O.exclude.Goals as goal
 
-pub overflow_add-sets : goal.overflow_add-sets
-overflow_add-sets g c =
-    let x = c.args.self.now.layer in
-    let m = g.O.Office.model x.below in
-    let t = x.own in
-    let u = c.fit.new.self in
-    let law = g.met.O.Office.lawful x.below in
-    let few = law.few in
-    let n : min c.role_count-roles.result 64 ≡ m.roles = omega (arith, c.role_count-roles.ensures) in
-    let e : table_sets u ≡ fitting m (table_roles t) (table_sets t) = c.fit.ensures.sets ∙ ap₂ (λ r k. fitted (table_roles t) r (8 - k) (table_sets t)) n c.set_count-sets.ensures in
-    let left = room_left m (table_sets u) (table_roles t) (table_sets t) e law.eight in
-    omega arith
-
-pub returns-then-sets-len-ge8 : goal.returns-then-sets-len-ge8
-returns-then-sets-len-ge8 g c =
-    let x = c.args.self.now.layer in
-    let m = g.O.Office.model x.below in
-    let t = x.own in
-    let u = c.fit.new.self in
-    let law = g.met.O.Office.lawful x.below in
-    let few = law.few in
-    let n : min c.role_count-roles.result 64 ≡ m.roles = omega (arith, c.role_count-roles.ensures) in
-    let e : table_sets u ≡ fitting m (table_roles t) (table_sets t) = c.fit.ensures.sets ∙ ap₂ (λ r k. fitted (table_roles t) r (8 - k) (table_sets t)) n c.set_count-sets.ensures in
-    let left : length m.sets + length (table_sets u) ≤ 8 = room_left m (table_sets u) (table_roles t) (table_sets t) e law.eight in
-    record {
-      answer = too_many m (table_sets u) (table_roles t) (table_sets t) c.args.members.now c.args.bound e (omega arith);
-      after = ap (λ r. house_model m r (table_sets u)) (c.fit.ensures.roles ∙ n) ∙ as_fitted m (table_sets u) (table_roles t) (table_sets t) e left;
-      below = refl;
-    }
+pub returns-then-set_count-ge8-clause-answer : goal.returns-then-set_count-ge8-clause-answer
+returns-then-set_count-ge8-clause-answer g c =
+    let before = housed_as g.O.Office.model c.args.self.now.layer in
+    too_many before.roles before.sets c.args.members.now c.args.bound (omega (arith, c.set_count.ensures, ap (λ m. length m.sets) c.fit.ensures.model))
 
 pub returns : goal.returns
 returns g c =
     let x = c.args.self.now.layer in
+    let before = housed_as g.O.Office.model x in
     let m = g.O.Office.model x.below in
-    let t = x.own in
-    let u = c.fit.new.self in
-    let v = c.add.new.self in
-    let law = g.met.O.Office.lawful x.below in
-    let few = law.few in
-    let n : min c.role_count-roles.result 64 ≡ m.roles = omega (arith, c.role_count-roles.ensures) in
-    let roles = c.fit.ensures.roles ∙ n in
-    let e : table_sets u ≡ fitting m (table_roles t) (table_sets t) = c.fit.ensures.sets ∙ ap₂ (λ r k. fitted (table_roles t) r (8 - k) (table_sets t)) n c.set_count-sets.ensures in
+    let y = c.fit.new.self in
+    let own = table_sets y.own in
+    let more = table_sets c.add.new.self in
+    let members = c.args.members.now in
+    let bound = c.args.bound in
+    let r = c.add.result in
+    let fit = c.fit.ensures in
+    let same : house_model m m.roles own ≡ before = ap₂ (λ b n. house_model (g.O.Office.model b) n own) (sym fit.below) (sym fit.roles) ∙ fit.model in
+    let count : c.set_count.result ≡ length before.sets = c.set_count.ensures ∙ ap (λ o. length o.sets) fit.model in
+    let parts = length_whole m own fit.room in
+    let all = ap (λ o. length o.sets) same in
     record {
-      answer = c.add.ensures.answer ∙ ap (λ r. set_answer r (table_sets u) c.args.members.now c.args.bound) roles
-          ∙ same_answer m (table_sets u) (table_roles t) (table_sets t) c.args.members.now c.args.bound e (omega arith);
-      after = ap (λ r. house_model m r (table_sets v)) (c.add.ensures.kept ∙ roles)
-          ∙ set_more m (table_sets u) (table_roles t) (table_sets t) (table_sets v) c.add.result c.args.members.now c.args.bound e (omega arith) c.add.ensures.after;
-      below = refl;
+      answer = c.add.ensures.answer
+          ∙ ap (λ n. set_answer n own members bound) fit.roles
+          ∙ same_answer m.roles own before.sets members bound (omega (arith, count, parts, all)) (omega (arith, count));
+      after = ap₂ (λ b n. house_model (g.O.Office.model b) n more) fit.below (c.add.ensures.kept ∙ fit.roles)
+          ∙ set_more m own more r members bound (omega (arith, count, parts, all)) c.add.ensures.after
+          ∙ ap (λ o. after_set r o members bound) same;
+      below = fit.below;
     }
