@@ -1,3 +1,0 @@
-pub mod HouseDrafts
-pub mod OwnSets
-pub mod Withholding

@@ -16,13 +16,13 @@ module _ (m : OfficeModel) (n : ℕ) (own : List SetModel) where
   fits_not : m.roles < n → fitting m n own ≡ []
   fits_not h = F.fits_not n m.roles (8 - length m.sets) own h
 
-  pub length_not : m.roles < n → length m.sets ≡ length (house_model m n own).sets
+  length_not : m.roles < n → length m.sets ≡ length (house_model m n own).sets
   length_not h = sym (ap (λ ss. length (m.sets ++ ss)) (fits_not h) ∙ ap length (append-nil m.sets))
 
-  pub length_fits : n ≤ m.roles → length (house_model m n own).sets ≡ length m.sets + min (8 - length m.sets) (length own)
+  length_fits : n ≤ m.roles → length (house_model m n own).sets ≡ length m.sets + min (8 - length m.sets) (length own)
   length_fits h = ap (λ ss. length (m.sets ++ ss)) (fits h) ∙ simp (length-append, length-take)
 
-  pub length_house : length m.sets ≤ 8 → length (house_model m n own).sets ≤ 8
+  length_house : length m.sets ≤ 8 → length (house_model m n own).sets ≤ 8
   length_house l =
       ⊎_elim (λ (f : m.roles < n). omega (arith, length_not f)) (λ (f : n ≤ m.roles). omega (arith, length_fits f)) (cases_lt m.roles n)
 

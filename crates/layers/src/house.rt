@@ -18,6 +18,7 @@ pub struct HouseRules<O: Office> {
     pub(crate) own: SetTable,
 }
 
+// House rules under drafting.
 pub type HouseDraft<O> = LayerDraft<HouseRules<O>>;
 
 impl<O: Office> LayerDraft<HouseRules<O>> {

@@ -16,6 +16,7 @@ pub struct Withheld<O: Office> {
     pub(crate) withheld: RoleSet,
 }
 
+// Withholding under drafting.
 pub type WithheldDraft<O> = LayerDraft<Withheld<O>>;
 
 impl<O: Office> LayerDraft<Withheld<O>> {
