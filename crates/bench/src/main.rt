@@ -5,7 +5,7 @@
 use banks::{Bank, Join, One};
 use list_office::{ListDraft, ListOffice};
 use offices::Office;
-use std::io;
+use std::{array, io};
 
 // 64 roles in one line, the longest chains that there are, all shared, with 8 sets of 8.
 fn full() -> ListOffice {
@@ -17,105 +17,73 @@ fn full() -> ListOffice {
         let _ = draft.share(role);
     }
     for set in 0..8u8 {
-        let first = set * 8;
-        let _ = draft.exclude(
-            &[
-                first,
-                first + 1,
-                first + 2,
-                first + 3,
-                first + 4,
-                first + 5,
-                first + 6,
-                first + 7,
-            ],
-            8,
-        );
+        let members: [u8; 8] = array::from_fn(|place| set * 8 + place as u8);
+        let _ = draft.exclude(&members, 8);
     }
     draft.seal()
 }
 
 // How many of the 64 questions `is this role over each` are answered yes.
-fn juniors<B: Bank>(bank: &B, office: u8, senior: u8) -> u32 {
-    let mut count = 0u32;
-    for junior in 0..64u8 {
-        if bank.is_over(office, senior, junior) {
-            count = count.saturating_add(1);
-        }
-    }
-    count
+fn juniors<B: Bank>(bank: &B, office: u8, senior: u8) -> usize {
+    (0..64u8)
+        .filter(|junior| bank.is_over(office, senior, *junior))
+        .count()
 }
 
-fn seniority<B: Bank>(bank: &B, office: u8) -> u32 {
-    let mut count = 0u32;
-    for senior in 0..64u8 {
-        count = count.saturating_add(juniors(bank, office, senior));
-    }
-    count
+// Adds up by `saturating_add`, which owes no bound, as `sum` would.
+fn seniority<B: Bank>(bank: &B, office: u8) -> usize {
+    (0..64u8)
+        .map(|senior| juniors(bank, office, senior))
+        .fold(0, usize::saturating_add)
 }
 
-fn places<B: Bank>(bank: &B, office: u8, set: u8) -> u32 {
-    let mut count = 0u32;
-    for place in 0..8u8 {
-        if bank.set_member(office, set, place).is_some() {
-            count = count.saturating_add(1);
-        }
-    }
-    count
+fn places<B: Bank>(bank: &B, office: u8, set: u8) -> usize {
+    (0..8u8)
+        .filter(|place| bank.set_member(office, set, *place).is_some())
+        .count()
 }
 
-fn members<B: Bank>(bank: &B, office: u8) -> u32 {
-    let mut count = 0u32;
-    for set in 0..8u8 {
-        count = count.saturating_add(places(bank, office, set));
-    }
-    count
+fn members<B: Bank>(bank: &B, office: u8) -> usize {
+    (0..8u8)
+        .map(|set| places(bank, office, set))
+        .fold(0, usize::saturating_add)
 }
 
 fn asked<B: Bank>(rt: &HostRuntime, bank: &B) -> io::Result<()> {
-    let mut over = 0u32;
-    let mut stand = 0u32;
-    for office in 0..16u8 {
-        over = over.saturating_add(seniority(bank, office));
-        stand = stand.saturating_add(members(bank, office));
-    }
+    let over = (0..16u8)
+        .map(|office| seniority(bank, office))
+        .fold(0, usize::saturating_add);
+    let stand = (0..16u8)
+        .map(|office| members(bank, office))
+        .fold(0, usize::saturating_add);
     println!(rt; "of 65536 questions on seniority, {over} were answered yes")?;
     println!(rt; "of 1024 questions on places of sets, {stand} found a role")
 }
 
+type ThreeMore<B> = Join<Join<Join<B, ListOffice>, ListOffice>, ListOffice>;
+
+fn three_more<B: Bank>(bank: B) -> ThreeMore<B> {
+    Join::new(Join::new(Join::new(bank, full()), full()), full())
+}
+
 // A long bank is joined a few offices at a time, so that each step is proved for whatever bank comes before.
+// One function that called itself at a longer bank would need a type for every length, without end.
 fn with_three_more<B: Bank + Drop>(rt: &HostRuntime, bank: B) -> io::Result<()> {
-    let bank = Join::new(Join::new(Join::new(bank, full()), full()), full());
-    asked(rt, &bank)
+    asked(rt, &three_more(bank))
 }
 
 fn with_six_more<B: Bank + Drop>(rt: &HostRuntime, bank: B) -> io::Result<()> {
-    with_three_more(
-        rt,
-        Join::new(Join::new(Join::new(bank, full()), full()), full()),
-    )
+    with_three_more(rt, three_more(bank))
 }
 
 fn with_nine_more<B: Bank + Drop>(rt: &HostRuntime, bank: B) -> io::Result<()> {
-    with_six_more(
-        rt,
-        Join::new(Join::new(Join::new(bank, full()), full()), full()),
-    )
+    with_six_more(rt, three_more(bank))
 }
 
 fn with_twelve_more<B: Bank + Drop>(rt: &HostRuntime, bank: B) -> io::Result<()> {
-    with_nine_more(
-        rt,
-        Join::new(Join::new(Join::new(bank, full()), full()), full()),
-    )
+    with_nine_more(rt, three_more(bank))
 }
 
 fn main(rt: HostRuntime) -> io::Result<()> {
-    with_twelve_more(
-        &rt,
-        Join::new(
-            Join::new(Join::new(One::new(full()), full()), full()),
-            full(),
-        ),
-    )
+    with_twelve_more(&rt, three_more(One::new(full())))
 }

@@ -41,57 +41,35 @@ fn heard<B: Bank + Drop>(rt: &impl Abort, bank: B) {
     assert!(rt; bank.is_over(15, 8, 0) && !bank.is_over(16, 8, 0));
 }
 
+type ThreeMore<B> = Join<Join<Join<B, Columns>, Columns>, Columns>;
+
+// A bank with three offices more, of these numbers of roles.
+fn three_more<B: Bank>(bank: B, roles: [u8; 3]) -> ThreeMore<B> {
+    let [first, second, third] = roles;
+    let bank = Join::new(bank, Columns::new(first));
+    Join::new(Join::new(bank, Columns::new(second)), Columns::new(third))
+}
+
+// A long bank is joined a few offices at a time, so that each step is proved for whatever bank comes before.
+// One function that called itself at a longer bank would need a type for every length, without end.
 fn from_thirteen<B: Bank + Drop>(rt: &impl Abort, bank: B) {
-    heard(
-        rt,
-        Join::new(
-            Join::new(Join::new(bank, Columns::new(14)), Columns::new(15)),
-            Columns::new(16),
-        ),
-    );
+    heard(rt, three_more(bank, [14, 15, 16]));
 }
 
 fn from_ten<B: Bank + Drop>(rt: &impl Abort, bank: B) {
-    from_thirteen(
-        rt,
-        Join::new(
-            Join::new(Join::new(bank, Columns::new(11)), Columns::new(12)),
-            Columns::new(13),
-        ),
-    );
+    from_thirteen(rt, three_more(bank, [11, 12, 13]));
 }
 
 fn from_seven<B: Bank + Drop>(rt: &impl Abort, bank: B) {
-    from_ten(
-        rt,
-        Join::new(
-            Join::new(Join::new(bank, Columns::new(8)), Columns::new(9)),
-            Columns::new(10),
-        ),
-    );
+    from_ten(rt, three_more(bank, [8, 9, 10]));
 }
 
 fn from_four<B: Bank + Drop>(rt: &impl Abort, bank: B) {
-    from_seven(
-        rt,
-        Join::new(
-            Join::new(Join::new(bank, Columns::new(5)), Columns::new(6)),
-            Columns::new(7),
-        ),
-    );
+    from_seven(rt, three_more(bank, [5, 6, 7]));
 }
 
 // The sixteenth office, 15, is heard, and the seventeenth is not.
 #[test]
 fn sixteen_are_heard(rt: HostRuntime) {
-    from_four(
-        &rt,
-        Join::new(
-            Join::new(
-                Join::new(One::new(Columns::new(1)), Columns::new(2)),
-                Columns::new(3),
-            ),
-            Columns::new(4),
-        ),
-    );
+    from_four(&rt, three_more(One::new(Columns::new(1)), [2, 3, 4]));
 }

@@ -18,10 +18,8 @@ impl Columns {
     pub fn new(roles: u8) -> Columns
         ensures { result.roles ≡ min roles 64 }
     {
-        if roles < 64 {
-            Columns { roles }
-        } else {
-            Columns { roles: 64 }
+        Columns {
+            roles: roles.min(64),
         }
     }
 }

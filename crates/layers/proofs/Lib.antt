@@ -1,2 +1,0 @@
-pub mod HouseDrafts
-pub mod Withholding

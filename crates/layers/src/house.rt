@@ -1,4 +1,4 @@
-ghost use Rattle.std.specs.Prelude.{◌≡◌};
+ghost use Rattle.std.specs.Prelude.{◌≡◌, ◌+◌, ◌≤◌, length};
 ghost use Rattle.layers.specs.Answering.{Answers};
 ghost use Rattle.layers.specs.Shown.{housed_as};
 ghost use Rattle.offices.specs.Drafting.{set_answer, after_set};
@@ -6,6 +6,7 @@ ghost use Rattle.offices.specs.Bases.{table_roles, table_sets};
 ghost use Rattle.offices.proofs.Lawfulness.{table_shaped};
 ghost use Rattle.layers.specs.HouseSets.{house_lawful};
 
+use crate::draft::LayerDraft;
 use answers::Refusal;
 use offices::{Office, SetTable};
 
@@ -13,83 +14,70 @@ use offices::{Office, SetTable};
 // far as it fits the answers from below.
 #[derive(Drop)]
 pub struct HouseRules<O: Office> {
-    below: O,
-    own: SetTable,
+    pub(crate) below: O,
+    pub(crate) own: SetTable,
 }
 
-// The layer under drafting.
-#[derive(Drop)]
-pub struct HouseDraft<O: Office> {
-    layer: HouseRules<O>,
-}
+// House rules under drafting.
+pub type HouseDraft<O> = LayerDraft<HouseRules<O>>;
 
-// Who answers for a set: the office below, the own table at a place, or nobody.
-#[derive(Clone, Copy)]
-pub(crate) enum Answerer {
-    Lower,
-    Own(u8),
-    Nobody,
-}
-
-impl<O: Office> HouseDraft<O> {
+impl<O: Office> LayerDraft<HouseRules<O>> {
     // No house rule yet.
     pub fn new(below: O) -> HouseDraft<O>
-        ensures model { housed_as O.Office.model result.layer ≡ O.Office.model below }
+        ensures model { housed_as O.model result.layer ≡ O.model below }
         ensures below { result.layer.below ≡ below }
     {
         let own = SetTable::new(below.role_count());
-        HouseDraft {
+        LayerDraft {
             layer: HouseRules { below, own },
         }
     }
 
     // Adds an exclusive set; those below count toward the 8.
     pub fn exclude(&mut self, members: &[u8], bound: u8) -> Result<(), Refusal>
-        ensures answer { result ≡ set_answer (housed_as O.Office.model self.old.layer).roles (housed_as O.Office.model self.old.layer).sets members.now bound }
-        ensures after { housed_as O.Office.model self.new.layer ≡ after_set result (housed_as O.Office.model self.old.layer) members.now bound }
+        ensures answer { let m = housed_as O.model self.old.layer in result ≡ set_answer m.roles m.sets members.now bound }
+        ensures after { housed_as O.model self.new.layer ≡ after_set result (housed_as O.model self.old.layer) members.now bound }
         ensures below { self.new.layer.below ≡ self.old.layer.below }
     {
-        let roles = self.layer.below.role_count();
-        let sets = self.layer.below.set_count();
-        self.layer.own.fit(roles, 8 - sets);
-        if sets + self.layer.own.len() >= 8 {
+        self.layer.fit();
+        if self.layer.set_count() >= 8 {
             return Err(Refusal::SetsFull);
         }
         self.layer.own.add(members, bound)
     }
-
-    // Ends the drafting.
-    pub fn seal(self) -> HouseRules<O>
-        ensures { result ≡ self.layer }
-    {
-        let HouseDraft { layer } = self;
-        layer
-    }
 }
 
 impl<O: Office> HouseRules<O> {
-    fn answerer(&self, set: u8) -> Answerer
-        ensures { Answers result (O.Office.model self.now.below) self.now.own set }
+    // Lets go of the own sets that do not count, so that each that is left does.
+    fn fit(&mut self)
+        ensures model { housed_as O.model self.new ≡ housed_as O.model self.old }
+        ensures below { self.new.below ≡ self.old.below }
+        ensures roles { self.new.own.roles ≡ (O.model self.old.below).roles }
+        ensures room { length (O.model self.old.below).sets + length (table_sets self.new.own) ≤ 8 }
     {
-        let lower = self.below.set_count();
-        if set < lower {
-            Answerer::Lower
-        } else if set >= 8 {
-            Answerer::Nobody
-        } else if self.own.roles() > self.below.role_count() {
-            Answerer::Nobody
-        } else {
-            Answerer::Own(set - lower)
+        let roles = self.below.role_count();
+        let room = 8 - self.below.set_count();
+        self.own.fit(roles, room);
+    }
+
+    // The place in the own table of the set that answers. For any other the office below answers: the set is its
+    // own, or it has none.
+    fn own_place(&self, set: u8) -> Option<u8>
+        ensures { Answers result (O.model self.now.below) self.now.own set }
+    {
+        if set >= self.set_count() {
+            return None;
         }
+        set.checked_sub(self.below.set_count())
     }
 }
 
 impl<O: Office> Office for HouseRules<O> {
-    ghost model = { housed_as O.Office.model };
+    ghost model = { housed_as O.model };
 
     ghost lawful = { λ x.
         let t = x.own in
-        house_lawful (O.Office.model x.below) (table_roles t) (table_sets t) (O.Office.lawful x.below) (table_shaped t) };
+        house_lawful (O.model x.below) (table_roles t) (table_sets t) (O.lawful x.below) (table_shaped t) };
 
     fn role_count(&self) -> u8 {
         self.below.role_count()
@@ -108,23 +96,20 @@ impl<O: Office> Office for HouseRules<O> {
         if self.own.roles() > self.below.role_count() {
             return lower;
         }
-        let own = self.own.len();
-        if own <= 8 - lower { lower + own } else { 8 }
+        lower.saturating_add(self.own.len()).min(8)
     }
 
     fn set_bound(&self, set: u8) -> u8 {
-        match self.answerer(set) {
-            Answerer::Lower => self.below.set_bound(set),
-            Answerer::Own(at) => self.own.bound(at),
-            Answerer::Nobody => 0,
+        match self.own_place(set) {
+            Some(at) => self.own.bound(at),
+            None => self.below.set_bound(set),
         }
     }
 
     fn set_member(&self, set: u8, place: u8) -> Option<u8> {
-        match self.answerer(set) {
-            Answerer::Lower => self.below.set_member(set, place),
-            Answerer::Own(at) => self.own.member(at, place),
-            Answerer::Nobody => None,
+        match self.own_place(set) {
+            Some(at) => self.own.member(at, place),
+            None => self.below.set_member(set, place),
         }
     }
 }

@@ -5,29 +5,27 @@ ghost use Rattle.offices.specs.Drafting.{mark_answer};
 ghost use Rattle.offices.specs.Members.{holds};
 ghost use Rattle.std.proofs.lemmas.Bool.{and_parts};
 
+use crate::draft::LayerDraft;
 use answers::Refusal;
 use offices::{Office, RoleSet};
 
 // A sealed layer that takes the shared mark off some roles of the office below.
 #[derive(Drop)]
 pub struct Withheld<O: Office> {
-    below: O,
-    withheld: RoleSet,
+    pub(crate) below: O,
+    pub(crate) withheld: RoleSet,
 }
 
-// The layer under drafting.
-#[derive(Drop)]
-pub struct WithheldDraft<O: Office> {
-    layer: Withheld<O>,
-}
+// Withholding under drafting.
+pub type WithheldDraft<O> = LayerDraft<Withheld<O>>;
 
-impl<O: Office> WithheldDraft<O> {
+impl<O: Office> LayerDraft<Withheld<O>> {
     // Nothing is withheld yet.
     pub fn new(below: O) -> WithheldDraft<O>
-        ensures model { withheld_as O.Office.model result.layer ≡ O.Office.model below }
+        ensures model { withheld_as O.model result.layer ≡ O.model below }
         ensures below { result.layer.below ≡ below }
     {
-        WithheldDraft {
+        LayerDraft {
             layer: Withheld {
                 below,
                 withheld: RoleSet::empty(),
@@ -37,8 +35,8 @@ impl<O: Office> WithheldDraft<O> {
 
     // Takes the shared mark off a role.
     pub fn withhold(&mut self, role: u8) -> Result<(), Refusal>
-        ensures answer { result ≡ mark_answer (O.Office.model self.old.layer.below).roles role }
-        ensures after { withheld_as O.Office.model self.new.layer ≡ after_withhold result (withheld_as O.Office.model self.old.layer) role }
+        ensures answer { result ≡ mark_answer (O.model self.old.layer.below).roles role }
+        ensures after { withheld_as O.model self.new.layer ≡ after_withhold result (withheld_as O.model self.old.layer) role }
         ensures below { self.new.layer.below ≡ self.old.layer.below }
     {
         if role >= self.layer.below.role_count() {
@@ -47,25 +45,17 @@ impl<O: Office> WithheldDraft<O> {
         self.layer.withheld = self.layer.withheld.with(role);
         Ok(())
     }
-
-    // Ends the drafting.
-    pub fn seal(self) -> Withheld<O>
-        ensures { result ≡ self.layer }
-    {
-        let WithheldDraft { layer } = self;
-        layer
-    }
 }
 
 impl<O: Office> Office for Withheld<O> {
-    ghost model = { withheld_as O.Office.model };
+    ghost model = { withheld_as O.model };
 
     ghost lawful = { λ x.
-        let l = O.Office.lawful x.below in
+        let l = O.lawful x.below in
         record {
           few = l.few;
           order = l.order;
-          marks = λ a h. l.marks a (and_parts ((O.Office.model x.below).shared a) (not (holds x.withheld a)) h).0;
+          marks = λ a h. l.marks a (and_parts ((O.model x.below).shared a) (not (holds x.withheld a)) h).0;
           eight = l.eight;
           shaped = l.shaped;
         } };

@@ -1,5 +1,5 @@
 use crate::notes::yes_or_no;
-use banks::{Bank, Join, One, code_of, role_at};
+use banks::{Bank, Join, One, RoleAt, code_of, role_at};
 use layers::{HouseRules, Withheld};
 use list_office::ListOffice;
 use matrix_office::MatrixOffice;
@@ -11,71 +11,87 @@ type Estate = Withheld<MatrixOffice>;
 
 type Abbey = Withheld<HouseRules<ListOffice>>;
 
-fn about_offices<B: Bank>(rt: &HostRuntime, bank: &B) -> io::Result<()> {
-    let count = bank.office_count();
-    println!(rt; "  how many offices? {count}")?;
-    for office in 0..6u8 {
-        let roles = bank.role_count(office);
-        let sets = bank.set_count(office);
-        println!(rt; "  office {office}: {roles} roles, {sets} sets")?;
-    }
-    Ok(())
+// Asks a bank, and prints each question with its answer.
+#[derive(Drop)]
+struct Asker<'a, B: Bank> {
+    rt: &'a HostRuntime,
+    bank: &'a B,
 }
 
-fn over<B: Bank>(rt: &HostRuntime, bank: &B, office: u8, senior: u8, junior: u8) -> io::Result<()> {
-    let answer = yes_or_no(bank.is_over(office, senior, junior));
-    println!(rt; "  in office {office}, is {senior} over {junior}? {answer}")
-}
-
-fn shared<B: Bank>(rt: &HostRuntime, bank: &B, office: u8, role: u8) -> io::Result<()> {
-    let answer = yes_or_no(bank.is_shared(office, role));
-    println!(rt; "  in office {office}, is {role} shared? {answer}")
-}
-
-fn about_seniority<B: Bank>(rt: &HostRuntime, bank: &B) -> io::Result<()> {
-    over(rt, bank, 1, 0, 2)?;
-    over(rt, bank, 1, 3, 2)?;
-    over(rt, bank, 2, 0, 2)?;
-    over(rt, bank, 4, 0, 0)?;
-    over(rt, bank, 9, 0, 0)?;
-    shared(rt, bank, 1, 0)?;
-    shared(rt, bank, 2, 0)?;
-    shared(rt, bank, 2, 1)?;
-    shared(rt, bank, 3, 2)?;
-    let bound = bank.set_bound(3, 1);
-    println!(rt; "  in office 3, what is the bound of set 1? {bound}")?;
-    match bank.set_member(3, 1, 1) {
-        Some(role) => println!(rt; "  in office 3, what stands at place 1 of set 1? {role}"),
-        None => println!(rt; "  in office 3, what stands at place 1 of set 1? nothing"),
-    }
-}
-
-fn role<B: Bank>(rt: &HostRuntime, bank: &B, code: u32) -> io::Result<()> {
-    match role_at(bank, code) {
-        Some(at) => {
-            let office = at.office;
-            let role = at.role;
-            println!(rt; "  whose code is {code}? role {role} of office {office}")
+impl<'a, B: Bank> Asker<'a, B> {
+    fn about_offices(&self) -> io::Result<()> {
+        let count = self.bank.office_count();
+        println!(self.rt; "  how many offices? {count}")?;
+        for office in 0..6u8 {
+            let roles = self.bank.role_count(office);
+            let sets = self.bank.set_count(office);
+            println!(self.rt; "  office {office}: {roles} roles, {sets} sets")?;
         }
-        None => println!(rt; "  whose code is {code}? nobody's"),
+        Ok(())
     }
-}
 
-fn about_codes<B: Bank>(rt: &HostRuntime, bank: &B) -> io::Result<()> {
-    match code_of(bank, 2, 1) {
-        Some(code) => println!(rt; "  what is the code of role 1 of office 2? {code}")?,
-        None => println!(rt; "  what is the code of role 1 of office 2? none")?,
+    fn over(&self, office: u8, senior: u8, junior: u8) -> io::Result<()> {
+        let answer = yes_or_no(self.bank.is_over(office, senior, junior));
+        println!(self.rt; "  in office {office}, is {senior} over {junior}? {answer}")
     }
-    role(rt, bank, 129)?;
-    role(rt, bank, 131)?;
-    role(rt, bank, 64)?;
-    role(rt, bank, 999999)
-}
 
-fn asked<B: Bank>(rt: &HostRuntime, bank: &B) -> io::Result<()> {
-    about_offices(rt, bank)?;
-    about_seniority(rt, bank)?;
-    about_codes(rt, bank)
+    fn shared(&self, office: u8, role: u8) -> io::Result<()> {
+        let answer = yes_or_no(self.bank.is_shared(office, role));
+        println!(self.rt; "  in office {office}, is {role} shared? {answer}")
+    }
+
+    fn about_seniority(&self) -> io::Result<()> {
+        self.over(1, 0, 2)?;
+        self.over(1, 3, 2)?;
+        self.over(2, 0, 2)?;
+        self.over(4, 0, 0)?;
+        self.over(9, 0, 0)?;
+        self.shared(1, 0)?;
+        self.shared(2, 0)?;
+        self.shared(2, 1)?;
+        self.shared(3, 2)
+    }
+
+    fn about_sets(&self) -> io::Result<()> {
+        let bound = self.bank.set_bound(3, 1);
+        println!(self.rt; "  in office 3, what is the bound of set 1? {bound}")?;
+        print!(self.rt; "  in office 3, what stands at place 1 of set 1? ")?;
+        match self.bank.set_member(3, 1, 1) {
+            Some(role) => println!(self.rt; "{role}"),
+            None => println!(self.rt; "nothing"),
+        }
+    }
+
+    fn code(&self, office: u8, role: u8) -> io::Result<()> {
+        print!(self.rt; "  what is the code of role {role} of office {office}? ")?;
+        match code_of(self.bank, office, role) {
+            Some(code) => println!(self.rt; "{code}"),
+            None => println!(self.rt; "none"),
+        }
+    }
+
+    fn role(&self, code: u32) -> io::Result<()> {
+        print!(self.rt; "  whose code is {code}? ")?;
+        match role_at(self.bank, code) {
+            Some(RoleAt { office, role }) => println!(self.rt; "role {role} of office {office}"),
+            None => println!(self.rt; "nobody's"),
+        }
+    }
+
+    fn about_codes(&self) -> io::Result<()> {
+        self.code(2, 1)?;
+        self.role(129)?;
+        self.role(131)?;
+        self.role(64)?;
+        self.role(999999)
+    }
+
+    fn about_all(&self) -> io::Result<()> {
+        self.about_offices()?;
+        self.about_seniority()?;
+        self.about_sets()?;
+        self.about_codes()
+    }
 }
 
 // A long bank is joined a few offices at a time, so that each step is proved for whatever bank comes before.
@@ -85,8 +101,8 @@ fn with_the_last_two<B: Bank + Drop>(
     abbey: Abbey,
     chapel: MatrixOffice,
 ) -> io::Result<()> {
-    let bank = Join::new(Join::new(bank, abbey), chapel);
-    asked(rt, &bank)
+    let bank = &Join::new(Join::new(bank, abbey), chapel);
+    Asker { rt, bank }.about_all()
 }
 
 pub fn joined_and_asked(

@@ -7,6 +7,7 @@ mod notes;
 mod questions;
 mod records;
 
+use questions::Asker;
 use std::io;
 
 fn main(rt: HostRuntime) -> io::Result<()> {
@@ -14,11 +15,15 @@ fn main(rt: HostRuntime) -> io::Result<()> {
     let office = records::records_house(&rt)?;
     println!(rt; "")?;
     println!(rt; "The sealed office is asked")?;
-    questions::about_roles(&rt, &office)?;
-    questions::about_sets(&rt, &office)?;
+    let asker = Asker {
+        rt: &rt,
+        office: &office,
+    };
+    asker.about_roles()?;
+    asker.about_sets()?;
     println!(rt; "")?;
     println!(rt; "By which chain one role is over another")?;
-    questions::by_which_chain(&rt, &office)?;
+    asker.by_which_chain()?;
     println!(rt; "")?;
     println!(rt; "Four houses more draft theirs")?;
     let parish = houses::parish(&rt)?;

@@ -1,6 +1,9 @@
 use answers::Refusal;
 use std::io;
 
+// What a shared mark does.
+pub const SHARED: &str = "other offices may link to it";
+
 // Notes what was asked of a draft and what it answered; `meaning` says what that does where it is accepted.
 pub fn note(
     rt: &HostRuntime,
@@ -17,18 +20,18 @@ pub fn note(
     }
 }
 
+// A type of our own with `Display` would be longer than this one choice of a word.
 pub fn yes_or_no(answer: bool) -> &'static str {
     if answer { "yes" } else { "no" }
 }
 
-// The names of the roles of the records house.
+// The roles of the records house, in the order of their numbers.
+const ROLES: [&str; 5] = ["archivist", "key", "check", "release", "read"];
+
+// By its number, which may be none of theirs: an enum would need a conversion that can fail besides.
 pub fn role_name(role: u16) -> &'static str {
-    match role {
-        0 => "archivist",
-        1 => "key",
-        2 => "check",
-        3 => "release",
-        4 => "read",
-        _ => "a role that it lacks",
-    }
+    ROLES
+        .get(role as usize)
+        .copied()
+        .unwrap_or("a role that it lacks")
 }

@@ -4,50 +4,66 @@ use offices::Office;
 use search::{Outcome, best_chain};
 use std::io;
 
-fn over(rt: &HostRuntime, office: &ListOffice, senior: u8, junior: u8) -> io::Result<()> {
-    let first = role_name(u16::from(senior));
-    let second = role_name(u16::from(junior));
-    let answer = yes_or_no(office.is_over(senior, junior));
-    println!(rt; "  is {first} over {second}? {answer}")
+// Asks an office, and prints each question with its answer.
+#[derive(Drop)]
+pub struct Asker<'a> {
+    pub rt: &'a HostRuntime,
+    pub office: &'a ListOffice,
 }
 
-pub fn about_roles(rt: &HostRuntime, office: &ListOffice) -> io::Result<()> {
-    let count = office.role_count();
-    println!(rt; "  how many roles? {count}")?;
-    over(rt, office, 0, 4)?;
-    over(rt, office, 1, 1)?;
-    over(rt, office, 1, 2)?;
-    over(rt, office, 4, 0)?;
-    over(rt, office, 0, 200)?;
-    for role in 0..6u8 {
+impl<'a> Asker<'a> {
+    fn over(&self, senior: u8, junior: u8) -> io::Result<()> {
+        let first = role_name(u16::from(senior));
+        let second = role_name(u16::from(junior));
+        let answer = yes_or_no(self.office.is_over(senior, junior));
+        println!(self.rt; "  is {first} over {second}? {answer}")
+    }
+
+    fn shared(&self, role: u8) -> io::Result<()> {
         let name = role_name(u16::from(role));
-        let answer = yes_or_no(office.is_shared(role));
-        println!(rt; "  is {name} shared? {answer}")?;
+        let answer = yes_or_no(self.office.is_shared(role));
+        println!(self.rt; "  is {name} shared? {answer}")
     }
-    Ok(())
-}
 
-fn member(rt: &HostRuntime, office: &ListOffice, set: u8, place: u8) -> io::Result<()> {
-    match office.set_member(set, place) {
-        Some(role) => {
-            let name = role_name(u16::from(role));
-            println!(rt; "  what stands at place {place} of set {set}? {name}")
+    pub fn about_roles(&self) -> io::Result<()> {
+        let count = self.office.role_count();
+        println!(self.rt; "  how many roles? {count}")?;
+        self.over(0, 4)?;
+        self.over(1, 1)?;
+        self.over(1, 2)?;
+        self.over(4, 0)?;
+        self.over(0, 200)?;
+        for role in 0..6u8 {
+            self.shared(role)?;
         }
-        None => println!(rt; "  what stands at place {place} of set {set}? nothing"),
+        Ok(())
     }
-}
 
-pub fn about_sets(rt: &HostRuntime, office: &ListOffice) -> io::Result<()> {
-    let count = office.set_count();
-    println!(rt; "  how many exclusive sets? {count}")?;
-    for set in 0..3u8 {
-        let bound = office.set_bound(set);
-        println!(rt; "  what is the bound of set {set}? {bound}")?;
+    fn member(&self, set: u8, place: u8) -> io::Result<()> {
+        let role = self.office.set_member(set, place);
+        let name = role.map_or("nothing", |role| role_name(u16::from(role)));
+        println!(self.rt; "  what stands at place {place} of set {set}? {name}")
     }
-    for place in 0..4u8 {
-        member(rt, office, 1, place)?;
+
+    pub fn about_sets(&self) -> io::Result<()> {
+        let count = self.office.set_count();
+        println!(self.rt; "  how many exclusive sets? {count}")?;
+        for set in 0..3u8 {
+            let bound = self.office.set_bound(set);
+            println!(self.rt; "  what is the bound of set {set}? {bound}")?;
+        }
+        for place in 0..4u8 {
+            self.member(1, place)?;
+        }
+        self.member(2, 0)
     }
-    member(rt, office, 2, 0)
+
+    pub fn by_which_chain(&self) -> io::Result<()> {
+        chain(self.rt, self.office, 0, 4)?;
+        chain(self.rt, self.office, 2, 2)?;
+        chain(self.rt, self.office, 1, 3)?;
+        chain(self.rt, self.office, 0, 77)
+    }
 }
 
 fn chain(rt: &HostRuntime, office: &ListOffice, senior: u8, junior: u8) -> io::Result<()> {
@@ -88,11 +104,4 @@ fn written(rt: &HostRuntime, strip: &[u16], len: usize) -> io::Result<()> {
         print!(rt; " {name}")?;
     }
     println!(rt; "")
-}
-
-pub fn by_which_chain(rt: &HostRuntime, office: &ListOffice) -> io::Result<()> {
-    chain(rt, office, 0, 4)?;
-    chain(rt, office, 2, 2)?;
-    chain(rt, office, 1, 3)?;
-    chain(rt, office, 0, 77)
 }

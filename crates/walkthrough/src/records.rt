@@ -1,7 +1,8 @@
-use crate::notes::note;
+use crate::notes::{SHARED, note};
 use list_office::{ListDraft, ListOffice};
 use std::io;
 
+// `rt` and the draft go to three functions, each called once: a struct for the two would be longer.
 fn seniority(rt: &HostRuntime, draft: &mut ListDraft) -> io::Result<()> {
     let stored = "the pair is stored";
     note(rt, "archivist over release", draft.pair(0, 3), stored)?;
@@ -16,10 +17,9 @@ fn seniority(rt: &HostRuntime, draft: &mut ListDraft) -> io::Result<()> {
 }
 
 fn sharing(rt: &HostRuntime, draft: &mut ListDraft) -> io::Result<()> {
-    let shared = "other offices may link to it";
-    note(rt, "share key", draft.share(1), shared)?;
-    note(rt, "share read", draft.share(4), shared)?;
-    note(rt, "share role 5", draft.share(5), shared)
+    note(rt, "share key", draft.share(1), SHARED)?;
+    note(rt, "share read", draft.share(4), SHARED)?;
+    note(rt, "share role 5", draft.share(5), SHARED)
 }
 
 fn exclusion(rt: &HostRuntime, draft: &mut ListDraft) -> io::Result<()> {
