@@ -3,3 +3,5 @@ pub mod JuniorRows
 pub mod ExactTables
 pub mod ExactSteps
 pub mod Lawfully
+pub mod RowFacts
+pub mod RowsFacts
