@@ -2,6 +2,4 @@
 // specs/Accord.antt yet.
 #![tactic(auto)]
 
-pub fn stated() -> u8 {
-    0
-}
+pub fn stated() {}
