@@ -1,6 +1,7 @@
 -- Rows stay exact as links are added, and are exact with no link where they have the juniors.
-use Rattle.std.proofs.Common.{◌≡◌, ℕ, ◌<◌, Bool, true, ◌&&◌, ◌||◌, ◌⊎◌, List, Decides, sym, refl, ap, ◌∙◌, subst, inl, inr, ⊎_elim}
+use Rattle.std.proofs.Common.{◌≡◌, ℕ, ◌<◌, Bool, true, ◌&&◌, ◌⊎◌, List, Decides, sym, refl, ap, ◌∙◌, subst, inl, inr, ⊎_elim}
 use Rattle.std.proofs.lemmas.Bool.{cases_eq, and_parts, and_from, or_cases, or_left, or_right}
+use Rattle.std.proofs.lemmas.Bool.Decides.{Decides-like}
 use Rattle.search.specs.Chains.{Chain, alone, onward, Reaches, Reached}
 use Rattle.search.proofs.Chaining.{chain_on, chain_wider, reaches_step, reaches_itself}
 use Rattle.offices.specs.Model.{OfficeModel}
@@ -11,6 +12,7 @@ use Rattle.law.specs.Roles.{LawfulBank, IsRole, Over}
 use Rattle.law.specs.Sound.{Link, Step}
 use Rattle.reach.specs.Rows.{joined}
 use Rattle.reach.specs.Exact.{Exact, Only, WithLink, Juniors}
+use Rattle.reach.proofs.Starting.{from_one}
 
 -- ---- any steps, and one more
 
@@ -82,40 +84,11 @@ module _ (bank : List OfficeModel) where
   pub exact_alike :
       (linked linked' : Link → Type 0) → ((l : Link) → linked l → linked' l) → ((l : Link) → linked' l → linked l)
       → (Start : ℕ → Type 0) (f : ℕ → Bool) → Exact bank linked Start f → Exact bank linked' Start f
-  exact_alike linked linked' into back Start f e b = (
-    (λ h. let r = (e b).0 h in (r.0, r.1, (r.2.0, chain_wider (step_alike linked linked' into) r.2.1))),
-    (λ r. (e b).1 (r.0, r.1, (r.2.0, chain_wider (step_alike linked' linked back) r.2.1))),
-  )
-
-  -- the same starts in other words
-  pub exact_starts :
-      (linked : Link → Type 0) (Start Start' : ℕ → Type 0) → ((a : ℕ) → Start a → Start' a) → ((a : ℕ) → Start' a → Start a)
-      → (f : ℕ → Bool) → Exact bank linked Start f → Exact bank linked Start' f
-  exact_starts linked Start Start' into back f e b = (
-    (λ h. let r = (e b).0 h in (r.0, into r.0 r.1, r.2)),
-    (λ r. (e b).1 (r.0, back r.0 r.1, r.2)),
-  )
-
-  -- the same codes in other words
-  pub exact_same :
-      (linked : Link → Type 0) (Start : ℕ → Type 0) (f g : ℕ → Bool) → ((b : ℕ) → g b ≡ f b)
-      → Exact bank linked Start f → Exact bank linked Start g
-  exact_same linked Start f g same e b = ((λ h. (e b).0 (sym (same b) ∙ h)), (λ r. same b ∙ (e b).1 r))
-
-  -- two groups of starts together
-  pub exact_either :
-      (linked : Link → Type 0) (Start Start' : ℕ → Type 0) (f g : ℕ → Bool) → Exact bank linked Start f → Exact bank linked Start' g
-      → Exact bank linked (λ a. Start a ⊎ Start' a) (λ b. f b || g b)
-  exact_either linked Start Start' f g ef eg b = (
-    (λ h. ⊎_elim
-        (λ (e : f b ≡ true). let r = (ef b).0 e in (r.0, inl r.1, r.2))
-        (λ (e : g b ≡ true). let r = (eg b).0 e in (r.0, inr r.1, r.2))
-        (or_cases (f b) (g b) h)),
-    (λ r. ⊎_elim
-        (λ (s : Start r.0). or_left (f b) (g b) ((ef b).1 (r.0, s, r.2)))
-        (λ (s : Start' r.0). or_right (f b) (g b) ((eg b).1 (r.0, s, r.2)))
-        r.1),
-  )
+  exact_alike linked linked' into back Start f e b =
+      Decides-like (f b)
+      (λ r. (r.0, r.1, (r.2.0, chain_wider (step_alike linked linked' into) r.2.1)))
+      (λ r. (r.0, r.1, (r.2.0, chain_wider (step_alike linked' linked back) r.2.1)))
+      (e b)
 
   -- ---- no link
 
@@ -156,10 +129,11 @@ module _ (bank : List OfficeModel) where
       pub exact_none :
           (Start : ℕ → Type 0) → ((a : ℕ) → Start a → IsRole bank a)
           → (f : ℕ → Bool) → Juniors bank Start f → Exact bank linked Start f
-      exact_none Start roles f e b = (
-        (λ h. let r = (e b).0 h in (r.0, r.1, over_chain r.0 b r.2)),
-        (λ r. (e b).1 (r.0, r.1, chain_over (roles r.0 r.1) r.2.1)),
-      )
+      exact_none Start roles f e b =
+          Decides-like (f b)
+          (λ r. (r.0, r.1, over_chain r.0 b r.2))
+          (λ r. (r.0, r.1, chain_over (roles r.0 r.1) r.2.1))
+          (e b)
 
       -- the juniors of one role
       pub exact_role :
@@ -169,7 +143,4 @@ module _ (bank : List OfficeModel) where
           exact_none (Only a)
           (λ x q. let P : ℕ → Type 0 = λ y. IsRole bank y in subst P (sym q) role)
           f
-          (λ b. (
-            (λ h. (a, refl, (e b).0 h)),
-            (λ r. (e b).1 (let P : ℕ → Type 0 = λ y. Over bank y b in subst P r.1 r.2)),
-          ))
+          (from_one (Over bank) a f e)

@@ -13,21 +13,21 @@ pub has_past : (r : Row) (b : ℕ) → 1024 ≤ b → has r b ≡ false
 unfolding has
 has_past r b h = grind (arith, nat_tests)
 
-pub has_within : (r : Row) (b : ℕ) → b < 1024 → has r b ≡ row_holds r.words (b / 64) (b % 64)
+pub has_within : (r : Row) (b : ℕ) → b < 1024 → has r b ≡ row_holds r.offices (b / 64) (b % 64)
 unfolding has
 has_within r b h = grind (arith, nat_tests)
 
 -- one office's roles written
 pub has_set :
-    (r : Row) (o : ℕ) (v : RoleSet) (b : ℕ) → o < 16 → length r.words ≡ 16
-    → has (record { words = set r.words o v }) b ≡ cond (eqb (b / 64) o) (holds v (b % 64)) (has r b)
+    (r : Row) (o : ℕ) (v : RoleSet) (b : ℕ) → o < 16 → length r.offices ≡ 16
+    → has (record { offices = set r.offices o v }) b ≡ cond (eqb (b / 64) o) (holds v (b % 64)) (has r b)
 unfolding has
 has_set r o v b h long = ⊎_elim
-    (λ (e : b / 64 ≡ o). let w = get_or-set_same r.words o v nobody (omega arith) in grind (arith, nat_tests))
-    (λ (ne : b / 64 ≡ o → ⊥). let w = get_or-set_other r.words o (b / 64) v nobody ne in grind (arith, nat_tests))
+    (λ (e : b / 64 ≡ o). let w = get_or-set_same r.offices o v nobody (omega arith) in grind (arith, nat_tests))
+    (λ (ne : b / 64 ≡ o → ⊥). let w = get_or-set_other r.offices o (b / 64) v nobody ne in grind (arith, nat_tests))
     (cases_eq (b / 64) o)
 
 -- the code of role i of office o is found where the role is
-pub has_at : (r : Row) (o i : ℕ) → o < 16 → i < 64 → has r (o * 64 + i) ≡ row_holds r.words o i
+pub has_at : (r : Row) (o i : ℕ) → o < 16 → i < 64 → has r (o * 64 + i) ≡ row_holds r.offices o i
 unfolding has
-has_at r o i lo h = has_within r (o * 64 + i) (omega arith) ∙ ap (λ x. row_holds r.words x ((o * 64 + i) % 64)) (div-mul-add o 64 i h) ∙ ap (row_holds r.words o) (mod-mul-add o 64 i h)
+has_at r o i lo h = has_within r (o * 64 + i) (omega arith) ∙ ap (λ x. row_holds r.offices x ((o * 64 + i) % 64)) (div-mul-add o 64 i h) ∙ ap (row_holds r.offices o) (mod-mul-add o 64 i h)

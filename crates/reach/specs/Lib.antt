@@ -3,4 +3,4 @@ pub mod Tables
 pub mod Steps
 pub mod Exact
 pub mod Laws
-pub mod RowFacts
+pub mod Within

@@ -5,13 +5,13 @@ use Rattle.banks.specs.Codes.{office_of, role_of}
 use Rattle.reach.specs.declared.row.Row.{Row}
 use Rattle.reach.specs.declared.rows.Rows.{Rows}
 
--- the role of the code b is among those of its office
+-- the code b is below 1,024, and its role is among those of its office
 unfoldable pub has : Row → ℕ → Bool
-has r b = nat_lt b 1024 && row_holds r.words (office_of b) (role_of b)
+has r b = nat_lt b 1024 && row_holds r.offices (office_of b) (role_of b)
 
 -- the row with no code
 abbrev pub blank : Row
-blank = record { words = replicate 16 nobody }
+blank = record { offices = replicate 16 nobody }
 
 -- row a has the code b; a row that is not there has none
 unfoldable pub rows_have : {n : ℕ} → Rows n → ℕ → ℕ → Bool

@@ -8,7 +8,7 @@ use offices::RoleSet;
 // The codes that one source reaches: for each of 16 offices, its roles.
 #[derive(Clone, Copy)]
 pub struct Row {
-    words: [RoleSet; 16],
+    offices: [RoleSet; 16],
 }
 
 // The office of a code and its role there.
@@ -24,7 +24,7 @@ impl Row {
         ensures { (b : ℕ) → has result b ≡ false }
     {
         Row {
-            words: [RoleSet::empty(); 16],
+            offices: [RoleSet::empty(); 16],
         }
     }
 
@@ -34,7 +34,7 @@ impl Row {
     {
         let mut row = Row::empty();
         if office < 16 {
-            row.words[usize::from(office)] = roles;
+            row.offices[usize::from(office)] = roles;
         }
         row
     }
@@ -43,7 +43,7 @@ impl Row {
         ensures { result ≡ has self.now code }
     {
         let (office, role) = place(code);
-        self.words
+        self.offices
             .get(office)
             .is_some_and(|roles| roles.contains(role))
     }
@@ -54,7 +54,7 @@ impl Row {
     {
         let (office, role) = place(code);
         if office < 16 {
-            self.words[office] = self.words[office].with(role);
+            self.offices[office] = self.offices[office].with(role);
         }
         self
     }
@@ -63,7 +63,7 @@ impl Row {
     pub fn office(&self, office: u8) -> RoleSet
         ensures { (i : ℕ) → i < 64 → holds result i ≡ has self.now (code_at office i) }
     {
-        self.words
+        self.offices
             .get(usize::from(office))
             .copied()
             .unwrap_or(RoleSet::empty())
@@ -73,8 +73,8 @@ impl Row {
     pub fn join(mut self, other: &Row) -> Row
         ensures { (b : ℕ) → has result b ≡ (has self b || has other.now b) }
     {
-        for (office, roles) in self.words.iter_mut().enumerate() {
-            *roles = roles.union(other.words[office]);
+        for (office, roles) in self.offices.iter_mut().enumerate() {
+            *roles = roles.union(other.offices[office]);
         }
         self
     }

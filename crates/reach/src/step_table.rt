@@ -2,7 +2,7 @@ ghost use Rattle.std.specs.Prelude.{◌≡◌, ℕ, IfOk};
 ghost use Rattle.reach.specs.Rows.{has, replaced};
 ghost use Rattle.reach.specs.Steps.{has_step, NoStep, WithStep};
 ghost use Rattle.std.proofs.Common.{arith};
-ghost use Rattle.reach.specs.RowFacts.{rows_inside};
+ghost use Rattle.reach.specs.Within.{rows_inside};
 
 use crate::row::Row;
 use crate::rows::Rows;

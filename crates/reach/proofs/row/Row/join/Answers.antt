@@ -16,7 +16,7 @@ loop-office-preserved c =
       long = length-set ws o v ∙ known.long;
       done = below_more _ _
           (λ k h i. row_set_other ws o v k i (omega arith) ∙ known.done k h i)
-          (λ i. row_set_same ws o v i (omega arith) ∙ c.union.ensures i ∙ ap (λ x. x || row_holds c.args.other.now.words o i) (known.rest o (omega arith) i));
+          (λ i. row_set_same ws o v i (omega arith) ∙ c.union.ensures i ∙ ap (λ x. x || row_holds c.args.other.now.offices o i) (known.rest o (omega arith) i));
       rest = λ k h i. row_set_other ws o v k i (omega arith) ∙ known.rest k (omega arith) i;
     }
 

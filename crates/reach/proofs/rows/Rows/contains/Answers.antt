@@ -1,7 +1,7 @@
 use Rattle.std.proofs.Common.{arith}
 use Rattle.std.proofs.lemmas.Grind.{common_steps}
 use Rattle.reach.specs.Rows.{rows_have}
-use Rattle.reach.specs.RowFacts.{rows_past}
+use Rattle.reach.specs.Within.{rows_past}
 use Rattle.reach.proofs.rows.Rows.contains.Goals as goal
 
 pub returns : goal.returns

@@ -3,8 +3,8 @@ use Rattle.std.proofs.lemmas.List.{with_items_is}
 use Rattle.std.proofs.lemmas.Bool.{cases_lt}
 use Rattle.std.proofs.lemmas.Bool.Decides.{nat_tests}
 use Rattle.reach.specs.Rows.{rows_have}
-use Rattle.reach.specs.RowFacts.{rows_past}
-use Rattle.reach.proofs.RowsFacts.{at_place}
+use Rattle.reach.specs.Within.{rows_past}
+use Rattle.reach.proofs.Places.{at_place}
 use Rattle.reach.proofs.rows.Rows.extend.Goals as goal
 
 pub returns : goal.returns

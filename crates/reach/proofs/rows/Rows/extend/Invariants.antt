@@ -1,6 +1,6 @@
 use Rattle.std.proofs.Common.{◌≡◌, ℕ, ◌<◌, ◌≤◌}
 use Rattle.reach.specs.Rows.{has, joined}
-use Rattle.reach.proofs.RowsFacts.{at_place}
+use Rattle.reach.proofs.Places.{at_place}
 use Rattle.reach.proofs.rows.Rows.extend.Given as goal
 
 abbrev pub invariant-loop-row : goal.invariant-loop-row

@@ -1,6 +1,6 @@
 use Rattle.std.proofs.Common.{ap, ◌∙◌}
 use Rattle.reach.specs.Rows.{rows_have}
-use Rattle.reach.proofs.RowsFacts.{at_place, place_fresh}
+use Rattle.reach.proofs.Places.{at_place, place_fresh}
 use Rattle.reach.proofs.rows.Rows.new.Goals as goal
 
 pub returns : goal.returns

@@ -1,6 +1,6 @@
 use Rattle.std.proofs.Common.{arith}
 use Rattle.reach.specs.Rows.{rows_have}
-use Rattle.reach.proofs.RowsFacts.{place_set}
+use Rattle.reach.proofs.Places.{place_set}
 use Rattle.reach.proofs.rows.Rows.set.Goals as goal
 
 pub returns-in-Some : goal.returns-in-Some

@@ -1,6 +1,6 @@
 use Rattle.std.proofs.Common.{arith}
 use Rattle.std.proofs.lemmas.Grind.{common_steps}
-use Rattle.reach.specs.RowFacts.{rows_inside}
+use Rattle.reach.specs.Within.{rows_inside}
 use Rattle.reach.proofs.step_table.StepTableGraph.step.Goals as goal
 
 pub returns : goal.returns

@@ -12,11 +12,11 @@ use Rattle.reach.specs.Rows.{has, blank, rows_have}
 
 pub has_below : (r : Row) (b : ℕ) → has r b ≡ true → b < 1024
 unfolding has
-has_below r b h = ltb-true b 1024 (and_parts (nat_lt b 1024) (row_holds r.words (office_of b) (role_of b)) h).0
+has_below r b h = ltb-true b 1024 (and_parts (nat_lt b 1024) (row_holds r.offices (office_of b) (role_of b)) h).0
 
 pub has_blank : (b : ℕ) → has blank b ≡ false
 unfolding has
-has_blank b = and_right (nat_lt b 1024) (row_holds blank.words (office_of b) (role_of b)) (row_replicate 16 nobody (office_of b) (role_of b) (λ i. row_past [] 0 i (omega arith)))
+has_blank b = and_right (nat_lt b 1024) (row_holds blank.offices (office_of b) (role_of b)) (row_replicate 16 nobody (office_of b) (role_of b) (λ i. row_past [] 0 i (omega arith)))
 
 pub rows_past : {n : ℕ} (t : Rows n) (a b : ℕ) → n ≤ a → rows_have t a b ≡ false
 unfolding rows_have

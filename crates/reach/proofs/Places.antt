@@ -5,7 +5,7 @@ use Rattle.std.proofs.lemmas.Bool.{cases_eq, cases_lt}
 use Rattle.std.proofs.lemmas.Bool.Decides.{nat_tests}
 use Rattle.reach.specs.declared.row.Row.{Row}
 use Rattle.reach.specs.Rows.{has, blank}
-use Rattle.reach.specs.RowFacts.{has_blank}
+use Rattle.reach.specs.Within.{has_blank}
 
 -- the code b of the row at place a
 abbrev pub at_place : List Row → ℕ → ℕ → Bool
