@@ -68,9 +68,6 @@ targets_in a b (l ∷ ls) m = go (eqb a l.from) refl m (targets_in a b ls)
     ]
     go false e k rest = Memᴰ.tail (rest k)
 
-clash : {b : Bool} → b ≡ true → b ≡ false → ⊥
-clash {b} p q = both_ways b q p
-
 -- the digit that bit i of w tests
 abbrev pub digit : ℕ → ℕ → Bool
 digit w i = eqb (w / 2 ^ i % 2) 1

@@ -3,15 +3,15 @@ use Rattle.std.proofs.Common.{◌≡◌, ℕ, ◌<◌, ◌&&◌, ◌||◌, eqb, 
 use Rattle.std.proofs.lemmas.Bool.{lt-ltb}
 use Rattle.std.proofs.lemmas.Bool.Decides.{Decides-and, Decides-or, Decides-eqb, Decides-at, Decides-like, nat_tests}
 use Rattle.search.specs.Asked.{Steps}
-use Rattle.search.specs.Chains.{Chain, Reached, Best}
-use Rattle.search.proofs.Chaining.{chain_wider}
+use Rattle.search.specs.Chains.{Best}
 use Rattle.offices.specs.Model.{OfficeModel}
 use Rattle.law.specs.Roles.{Over}
 use Rattle.law.specs.Sound.{Link, Step}
 use Rattle.reach.specs.declared.step_table.StepTable.{StepTable}
 use Rattle.reach.specs.Steps.{has_step, WithStep}
 use Rattle.reach.specs.Exact.{WithLink, ExactlySteps}
-use Rattle.reach.proofs.Exactness.{step_alike}
+use Rattle.law.proofs.Scenes.{step_more}
+use Rattle.law.proofs.Same.{best_alike}
 
 module _ (bank : List OfficeModel) (linked : Link → Type 0) where
   pub steps_more :
@@ -38,7 +38,7 @@ module _ (bank : List OfficeModel) (linked : Link → Type 0) where
       (linked' : Link → Type 0) → ((l : Link) → linked l → linked' l) → ((l : Link) → linked' l → linked l)
       → (t : StepTable) → ExactlySteps bank linked t → ExactlySteps bank linked' t
   steps_alike linked' into back t x a b =
-      Decides-like (has_step t a b) (step_alike bank linked linked' into a b) (step_alike bank linked' linked back a b) (x a b)
+      Decides-like (has_step t a b) (step_more bank linked linked' into a b) (step_more bank linked' linked back a b) (x a b)
 
   pub steps_none :
       ((l : Link) → linked l → ⊥) → (t : StepTable)
@@ -48,32 +48,9 @@ module _ (bank : List OfficeModel) (linked : Link → Type 0) where
       (⊎_elim (λ (p : (a ≡ b → ⊥) × Over bank a b). p) (λ (l : linked (record { from = a; to = b })). absurd (none _ l)))
       (e a b)
 
-  module _ (t : StepTable) (x : ExactlySteps bank linked t) where
-    pub chain_by_steps : {a b : ℕ} {xs : List ℕ} → Chain (Steps (has_step t)) a b xs → Chain (Step bank linked) a b xs
-    chain_by_steps c = chain_wider (λ a b. (x a b).0) c
-
-    pub chain_in_steps : {a b : ℕ} {xs : List ℕ} → Chain (Step bank linked) a b xs → Chain (Steps (has_step t)) a b xs
-    chain_in_steps c = chain_wider (λ a b. (x a b).1) c
-
-    -- the best chain by the steps, from the same starts in other words
-    pub best_by_steps :
-        (Start Start' : ℕ → Type 0) → ((a : ℕ) → Start a → Start' a) → ((a : ℕ) → Start' a → Start a)
-        → (b : ℕ) (xs : List ℕ) → Best (Steps (has_step t)) Start b xs → Best (Step bank linked) Start' b xs
-    best_by_steps Start Start' into back b xs p = record {
-      from = p.from;
-      starts = into p.from p.starts;
-      leads = chain_by_steps p.leads;
-      shortest = λ a ys s c. p.shortest a ys (back a s) (chain_in_steps c);
-      first = λ a ys s c e. p.first a ys (back a s) (chain_in_steps c) e;
-    }
-
-    -- whatever is reached by the steps, and nothing else
-    pub reached_by_steps :
-        (Start Start' : ℕ → Type 0) → ((a : ℕ) → Start a → Start' a)
-        → (b : ℕ) → Reached (Steps (has_step t)) Start b → Reached (Step bank linked) Start' b
-    reached_by_steps Start Start' into b r = (r.0, into r.0 r.1, (r.2.0, chain_by_steps r.2.1))
-
-    pub reached_in_steps :
-        (Start Start' : ℕ → Type 0) → ((a : ℕ) → Start' a → Start a)
-        → (b : ℕ) → Reached (Step bank linked) Start' b → Reached (Steps (has_step t)) Start b
-    reached_in_steps Start Start' back b r = (r.0, back r.0 r.1, (r.2.0, chain_in_steps r.2.1))
+  -- the best chain by the steps, from the same starts in other words
+  pub best_by_steps :
+      (t : StepTable) → ExactlySteps bank linked t
+      → (Start Start' : ℕ → Type 0) → ((a : ℕ) → Start a → Start' a) → ((a : ℕ) → Start' a → Start a)
+      → (b : ℕ) (xs : List ℕ) → Best (Steps (has_step t)) Start b xs → Best (Step bank linked) Start' b xs
+  best_by_steps t x Start Start' into back b xs p = best_alike Start Start' (λ a b. (x a b).0) (λ a b. (x a b).1) (λ a. (into a, back a)) p

@@ -5,11 +5,12 @@ use Rattle.std.proofs.lemmas.Bool.Decides.{Decides-at}
 use Rattle.offices.specs.Model.{OfficeModel}
 use Rattle.law.specs.Roles.{LawfulBank, IsRole}
 use Rattle.law.specs.Sound.{Link}
+use Rattle.law.proofs.Scenes.{over_roles}
 use Rattle.reach.specs.declared.table.ReachTable.{ReachTable}
 use Rattle.reach.specs.Rows.{joined}
 use Rattle.reach.specs.Tables.{code_reaches, card_reaches, owner_reaches, Entered}
 use Rattle.reach.specs.Exact.{Exact, Only, WithLink, ExactTable, JuniorTable}
-use Rattle.reach.proofs.Exactness.{exact_more, exact_alike, exact_none, exact_role, over_role}
+use Rattle.reach.proofs.Exactness.{exact_more, exact_alike, exact_none, exact_role}
 
 module _ (bank : List OfficeModel) (held outsiders : ℕ → ℕ → Type 0) where
   module _ (linked : Link → Type 0) where
@@ -43,7 +44,7 @@ module _ (bank : List OfficeModel) (held outsiders : ℕ → ℕ → Type 0) whe
         → (t : ReachTable) → JuniorTable bank held outsiders t → ExactTable bank linked held outsiders t
     table_none lawful none holders outside t x = record {
       roles = λ a r. exact_role bank lawful linked none a r (code_reaches t a) (x.codes a);
-      others = λ a b no. ⊎_elim (λ (h : code_reaches t a b ≡ true). absurd (no (over_role bank lawful a b ((x.codes a b).0 h)))) (λ h. h) (cases_Bool (code_reaches t a b));
+      others = λ a b no. ⊎_elim (λ (h : code_reaches t a b ≡ true). absurd (no ((over_roles bank lawful a b ((x.codes a b).0 h)).0))) (λ h. h) (cases_Bool (code_reaches t a b));
       cards = λ c l. exact_none bank lawful linked none (held c) (holders c) (card_reaches t c) (x.cards c l);
       owners = λ o l. exact_none bank lawful linked none (outsiders o) (outside o) (owner_reaches t o) (x.owners o l);
     }
