@@ -1,3 +1,4 @@
 pub mod Choosing
+pub mod Still
 pub mod Cards
 pub mod Records
