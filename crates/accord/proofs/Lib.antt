@@ -2,3 +2,4 @@ pub mod Choosing
 pub mod Still
 pub mod Cards
 pub mod Records
+pub mod Beginning
