@@ -1,5 +1,5 @@
 -- Tables and history begin in accord, and tables in accord with a right history are proper.
-use Rattle.std.proofs.Common.{◌≡◌, ℕ, ◌<◌, refl, inl, inr, arith}
+use Rattle.std.proofs.Common.{refl, inl, inr, arith}
 use Rattle.std.proofs.lemmas.Bool.{both_ways}
 use Rattle.law.proofs.Kept.{all_kept}
 use Rattle.accord.specs.Accord.{EmptyAgrees, AgreeProper}

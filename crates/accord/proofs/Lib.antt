@@ -3,3 +3,4 @@ pub mod Still
 pub mod Cards
 pub mod Records
 pub mod Beginning
+pub mod Settled

@@ -1,11 +1,11 @@
-// The register's tables and a history of requests: what it means that they agree. `SettledAgrees` of specs/Accord.antt,
-// that each request settled by the tables keeps accord, is carried by nothing yet.
+// The register's tables and a history of requests: what it means that they agree, and what keeps it so. Nothing runs here.
 #![tactic(auto)]
 
-ghost use Rattle.accord.specs.Accord.{EmptyAgrees, AgreeProper};
+ghost use Rattle.accord.specs.Accord.{EmptyAgrees, SettledAgrees, AgreeProper};
 
-// Tables and history begin in accord, and tables in accord with a right history are proper.
-pub fn accord_begins()
+// Tables and history begin in accord, and each request that is settled by the tables keeps it.
+pub fn accord_is_kept()
     ensures begun { EmptyAgrees }
+    ensures kept { SettledAgrees }
     ensures proper { AgreeProper }
 {}
