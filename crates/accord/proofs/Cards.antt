@@ -1,14 +1,14 @@
 -- Accepted requests of the card room and about trust keep tables and history in accord.
-use Rattle.std.proofs.Common.{◌≡◌, ℕ, true, false, cond, eqb, ◌↔◌, List, Some, None, sym, refl, ap, ◌∙◌, subst, inl, inr, arith}
+use Rattle.std.proofs.Common.{◌≡◌, ℕ, true, false, cond, eqb, ◌↔◌, List, Some, None, sym, refl, ap, ◌∙◌, subst, inl, inr}
 use mathlib.Core.Logic.Iff
 use Rattle.std.proofs.lemmas.Bool.{cases_eq, both_ways}
 use Rattle.banks.specs.Codes.{office_of, role_of}
-use Rattle.law.specs.Requests.{Request, accepted, issue, assign, relieve, handback, trust, distrust}
+use Rattle.law.specs.Requests.{Request, issue, assign, relieve, handback, trust, distrust}
 use Rattle.law.specs.Histories.{Event, accepting, Issued, Holds, Trusts}
-use Rattle.law.proofs.Changes.{kind, issued_still, held_still, trusted_still, standing_still, suspended_still}
 use Rattle.accord.specs.Tables.{Tables, Holding, Trusting}
 use Rattle.accord.specs.Agree.{Agree}
 use Rattle.accord.specs.Settling.{carded, holding, trusting}
+use Rattle.accord.proofs.Still.{homes_still, holdings_still, trust_still, recorded_still, resting_still}
 use Rattle.accord.proofs.Choosing.{some_one, some_none, at_it, at_other, at_pair, off_pair, pair_known, code_one}
 
 same_issue : (c o c' o' : ℕ) → issue c o ≡ issue c' o' → (c ≡ c') × (o ≡ o')
@@ -26,14 +26,8 @@ same_trust o p o' p' e = (cc, cc)
 same_distrust : (o p o' p' : ℕ) → distrust o p ≡ distrust o' p' → (o ≡ o') × (p ≡ p')
 same_distrust o p o' p' e = (cc, cc)
 
-pub other_kind : (q r : Request) → (kind q ≡ kind r → ⊥) → q ≡ r → ⊥
-other_kind q r n e = n (ap kind e)
-
 module _ (t : Tables) (h : List Event) (n : ℕ) (a : Agree t h) where
   module _ (c o : ℕ) (new : (p : ℕ) → t.home c ≡ Some p → ⊥) where
-    issue_event : Event
-    issue_event = record { request = issue c o; strip = n; answer = accepted }
-
     issued_to : (c' o' : ℕ) → Issued (accepting n (issue c o) h) c' o' → cond (eqb c' c) (Some o) (t.home c') ≡ Some o'
     issued_to c' o' (inl b) = let e = same_issue c o c' o' b.1 in at_it c' c (Some o) (t.home c') (sym e.0) ∙ ap Some e.1
     issued_to c' o' (inr b) = let k = (a.homes c' o').0 b.1 in elim (cases_eq c' c) [
@@ -44,18 +38,18 @@ module _ (t : Tables) (h : List Event) (n : ℕ) (a : Agree t h) where
     to_issued : (c' o' : ℕ) → cond (eqb c' c) (Some o) (t.home c') ≡ Some o' → Issued (accepting n (issue c o) h) c' o'
     to_issued c' o' k = elim (cases_eq c' c) [
       | inl e ↦ (let f = some_one o o' (sym (at_it c' c (Some o) (t.home c') e) ∙ k) in inl (refl, cc))
-      | inr d ↦ inr ((λ b. other_kind (issue c o) (handback c') (λ i. omega arith) b.1), (a.homes c' o').1 (sym (at_other c' c (Some o) (t.home c') d) ∙ k))
+      | inr d ↦ inr ((λ b. (let same = b.1 in cc)), (a.homes c' o').1 (sym (at_other c' c (Some o) (t.home c') d) ∙ k))
     ]
 
     pub agree_issue : Agree (carded t c (Some o)) (accepting n (issue c o) h)
     agree_issue =
-        let e : Event = record { request = issue c o; strip = n; answer = accepted } in
+        let q : Request = issue c o in
         record {
           homes = λ c' o'. (issued_to c' o', to_issued c' o');
-          holdings = λ c' r. Iff.trans (held_still e h (λ x. ((λ i. omega arith), (λ i. omega arith), λ i. omega arith)) c' r) (Iff.trans (a.holdings c' r) (keeps c' r));
-          trust = λ x y. Iff.trans (trusted_still e h (λ x. ((λ i. omega arith), λ i. omega arith)) x y) (a.trust x y);
-          standing = λ l. Iff.trans (standing_still e h (λ x. ((λ i. omega arith), (λ i. omega arith), λ i. omega arith)) l) (a.standing l);
-          suspended = λ l. Iff.trans (suspended_still e h (λ x. ((λ i. omega arith), (λ i. omega arith), λ i. omega arith)) l) (a.suspended l);
+          holdings = λ c' r. Iff.trans (holdings_still n a q refl c' r) (keeps c' r);
+          trust = trust_still n a q refl;
+          standing = recorded_still n a q refl;
+          suspended = resting_still n a q refl;
           apart = a.apart;
         }
       where
@@ -73,18 +67,18 @@ module _ (t : Tables) (h : List Event) (n : ℕ) (a : Agree t h) where
 
   pub agree_handback : (c : ℕ) → Agree (carded t c None) (accepting n (handback c) h)
   agree_handback c =
-      let e : Event = record { request = handback c; strip = n; answer = accepted } in
+      let q : Request = handback c in
       record {
         homes = λ c' o. (issued c' o, to_issued c' o);
         holdings = λ c' r. (held c' r, to_held c' r);
-        trust = λ x y. Iff.trans (trusted_still e h (λ x. ((λ i. omega arith), λ i. omega arith)) x y) (a.trust x y);
-        standing = λ l. Iff.trans (standing_still e h (λ x. ((λ i. omega arith), (λ i. omega arith), λ i. omega arith)) l) (a.standing l);
-        suspended = λ l. Iff.trans (suspended_still e h (λ x. ((λ i. omega arith), (λ i. omega arith), λ i. omega arith)) l) (a.suspended l);
+        trust = trust_still n a q refl;
+        standing = recorded_still n a q refl;
+        suspended = resting_still n a q refl;
         apart = a.apart;
       }
     where
       issued : (c' o : ℕ) → Issued (accepting n (handback c) h) c' o → cond (eqb c' c) None (t.home c') ≡ Some o
-      issued c' o (inl b) = absurd (other_kind (handback c) (issue c' o) (λ i. omega arith) b.1)
+      issued c' o (inl b) = absurd (let same = b.1 in cc)
       issued c' o (inr b) = elim (cases_eq c' c) [
         | inl e ↦ absurd (b.0 (refl, cc))
         | inr d ↦ at_other c' c None (t.home c') d ∙ (a.homes c' o).0 b.1
@@ -97,7 +91,7 @@ module _ (t : Tables) (h : List Event) (n : ℕ) (a : Agree t h) where
       ]
 
       held : (c' r : ℕ) → Holds (accepting n (handback c) h) c' r → Holding (carded t c None) c' r
-      held c' r (inl b) = absurd (other_kind (handback c) (assign c' r) (λ i. omega arith) b.1)
+      held c' r (inl b) = absurd (let same = b.1 in cc)
       held c' r (inr b) = let x = (a.holdings c' r).0 b.1 in elim (cases_eq c' c) [
         | inl e ↦ absurd (b.0 (refl, inr (cc)))
         | inr d ↦ (at_other c' c None (t.home c') d ∙ x.0, at_other c' c false (t.held c' (role_of r)) d ∙ x.1)
@@ -107,7 +101,7 @@ module _ (t : Tables) (h : List Event) (n : ℕ) (a : Agree t h) where
       to_held c' r x = elim (cases_eq c' c) [
         | inl e ↦ absurd (some_none _ (office_of r) (at_it c' c None (t.home c') e) x.0)
         | inr d ↦ inr (
-          (λ b. elim b.1 [ inl i ↦ other_kind (handback c) (relieve c' r) (λ i. omega arith) i | inr i ↦ d (cc) ]),
+          (λ b. elim b.1 [ inl i ↦ (let same = i in cc) | inr i ↦ d (cc) ]),
           (a.holdings c' r).1 (sym (at_other c' c None (t.home c') d) ∙ x.0, sym (at_other c' c false (t.held c' (role_of r)) d) ∙ x.1),
         )
       ]
@@ -119,13 +113,13 @@ module _ (t : Tables) (h : List Event) (n : ℕ) (a : Agree t h) where
 
     pub agree_assign : Agree (holding t c (role_of r) true) (accepting n (assign c r) h)
     agree_assign =
-        let e : Event = record { request = assign c r; strip = n; answer = accepted } in
+        let q : Request = assign c r in
         record {
-          homes = λ c' o. Iff.trans (issued_still e h (λ x. ((λ i. omega arith), λ i. omega arith)) c' o) (a.homes c' o);
+          homes = homes_still n a q refl;
           holdings = λ c' r'. (held c' r', to_held c' r');
-          trust = λ x y. Iff.trans (trusted_still e h (λ x. ((λ i. omega arith), λ i. omega arith)) x y) (a.trust x y);
-          standing = λ l. Iff.trans (standing_still e h (λ x. ((λ i. omega arith), (λ i. omega arith), λ i. omega arith)) l) (a.standing l);
-          suspended = λ l. Iff.trans (suspended_still e h (λ x. ((λ i. omega arith), (λ i. omega arith), λ i. omega arith)) l) (a.suspended l);
+          trust = trust_still n a q refl;
+          standing = recorded_still n a q refl;
+          suspended = resting_still n a q refl;
           apart = a.apart;
         }
       where
@@ -146,25 +140,25 @@ module _ (t : Tables) (h : List Event) (n : ℕ) (a : Agree t h) where
         to_held c' r' x = elim (pair_known c' (role_of r') c (role_of r)) [
           | inl y ↦ (let f = only c' r' x.0 y in let g = y.0 in inl (refl, cc))
           | inr d ↦ inr (
-            (λ b. elim b.1 [ inl i ↦ other_kind (assign c r) (relieve c' r') (λ i. omega arith) i | inr i ↦ other_kind (assign c r) (handback c') (λ i. omega arith) i ]),
+            (λ b. elim b.1 [ inl i ↦ (let same = i in cc) | inr i ↦ (let same = i in cc) ]),
             (a.holdings c' r').1 (x.0, sym (off_pair c' (role_of r') c (role_of r) true _ d) ∙ x.1),
           )
         ]
 
     pub agree_relieve : Agree (holding t c (role_of r) false) (accepting n (relieve c r) h)
     agree_relieve =
-        let e : Event = record { request = relieve c r; strip = n; answer = accepted } in
+        let q : Request = relieve c r in
         record {
-          homes = λ c' o. Iff.trans (issued_still e h (λ x. ((λ i. omega arith), λ i. omega arith)) c' o) (a.homes c' o);
+          homes = homes_still n a q refl;
           holdings = λ c' r'. (held c' r', to_held c' r');
-          trust = λ x y. Iff.trans (trusted_still e h (λ x. ((λ i. omega arith), λ i. omega arith)) x y) (a.trust x y);
-          standing = λ l. Iff.trans (standing_still e h (λ x. ((λ i. omega arith), (λ i. omega arith), λ i. omega arith)) l) (a.standing l);
-          suspended = λ l. Iff.trans (suspended_still e h (λ x. ((λ i. omega arith), (λ i. omega arith), λ i. omega arith)) l) (a.suspended l);
+          trust = trust_still n a q refl;
+          standing = recorded_still n a q refl;
+          suspended = resting_still n a q refl;
           apart = a.apart;
         }
       where
         held : (c' r' : ℕ) → Holds (accepting n (relieve c r) h) c' r' → Holding (holding t c (role_of r) false) c' r'
-        held c' r' (inl b) = absurd (other_kind (relieve c r) (assign c' r') (λ i. omega arith) b.1)
+        held c' r' (inl b) = absurd (let same = b.1 in cc)
         held c' r' (inr b) = let x = (a.holdings c' r').0 b.1 in elim (pair_known c' (role_of r') c (role_of r)) [
           | inl y ↦ (let f = only c' r' x.0 y in let g = y.0 in absurd (b.0 (refl, inl (cc))))
           | inr d ↦ (x.0, off_pair c' (role_of r') c (role_of r) false _ d ∙ x.1)
@@ -176,7 +170,7 @@ module _ (t : Tables) (h : List Event) (n : ℕ) (a : Agree t h) where
           | inr d ↦ inr (
             (λ b. elim b.1 [
               | inl i ↦ (let e = same_relieve c r c' r' i in d (sym e.0, ap role_of (sym e.1)))
-              | inr i ↦ other_kind (relieve c r) (handback c') (λ i. omega arith) i
+              | inr i ↦ (let same = i in cc)
             ]),
             (a.holdings c' r').1 (x.0, sym (off_pair c' (role_of r') c (role_of r) false _ d) ∙ x.1),
           )
@@ -184,13 +178,13 @@ module _ (t : Tables) (h : List Event) (n : ℕ) (a : Agree t h) where
 
   pub agree_trust : (o p : ℕ) → Agree (trusting t o p true) (accepting n (trust o p) h)
   agree_trust o p =
-      let e : Event = record { request = trust o p; strip = n; answer = accepted } in
+      let q : Request = trust o p in
       record {
-        homes = λ c x. Iff.trans (issued_still e h (λ x. ((λ i. omega arith), λ i. omega arith)) c x) (a.homes c x);
-        holdings = λ c r. Iff.trans (held_still e h (λ x. ((λ i. omega arith), (λ i. omega arith), λ i. omega arith)) c r) (a.holdings c r);
+        homes = homes_still n a q refl;
+        holdings = holdings_still n a q refl;
         trust = λ x y. (to x y, from x y);
-        standing = λ l. Iff.trans (standing_still e h (λ x. ((λ i. omega arith), (λ i. omega arith), λ i. omega arith)) l) (a.standing l);
-        suspended = λ l. Iff.trans (suspended_still e h (λ x. ((λ i. omega arith), (λ i. omega arith), λ i. omega arith)) l) (a.suspended l);
+        standing = recorded_still n a q refl;
+        suspended = resting_still n a q refl;
         apart = a.apart;
       }
     where
@@ -208,25 +202,25 @@ module _ (t : Tables) (h : List Event) (n : ℕ) (a : Agree t h) where
         | inl z ↦ (let f = z.0 in let g = z.1 in inr (inl (refl, cc)))
         | inr d ↦ elim ((a.trust x y).1 (inr (sym (off_pair x y o p true _ d) ∙ k))) [
           | inl i ↦ inl i
-          | inr s ↦ inr (inr ((λ b. other_kind (trust o p) (distrust x y) (λ i. omega arith) b.1), s))
+          | inr s ↦ inr (inr ((λ b. (let same = b.1 in cc)), s))
         ]
       ]
 
   pub agree_distrust : (o p : ℕ) → Agree (trusting t o p false) (accepting n (distrust o p) h)
   agree_distrust o p =
-      let e : Event = record { request = distrust o p; strip = n; answer = accepted } in
+      let q : Request = distrust o p in
       record {
-        homes = λ c x. Iff.trans (issued_still e h (λ x. ((λ i. omega arith), λ i. omega arith)) c x) (a.homes c x);
-        holdings = λ c r. Iff.trans (held_still e h (λ x. ((λ i. omega arith), (λ i. omega arith), λ i. omega arith)) c r) (a.holdings c r);
+        homes = homes_still n a q refl;
+        holdings = holdings_still n a q refl;
         trust = λ x y. (to x y, from x y);
-        standing = λ l. Iff.trans (standing_still e h (λ x. ((λ i. omega arith), (λ i. omega arith), λ i. omega arith)) l) (a.standing l);
-        suspended = λ l. Iff.trans (suspended_still e h (λ x. ((λ i. omega arith), (λ i. omega arith), λ i. omega arith)) l) (a.suspended l);
+        standing = recorded_still n a q refl;
+        suspended = resting_still n a q refl;
         apart = a.apart;
       }
     where
       to : (x y : ℕ) → Trusts (accepting n (distrust o p) h) x y → Trusting (trusting t o p false) x y
       to x y (inl i) = inl i
-      to x y (inr (inl b)) = absurd (other_kind (distrust o p) (trust x y) (λ i. omega arith) b.1)
+      to x y (inr (inl b)) = absurd (let same = b.1 in cc)
       to x y (inr (inr b)) = elim (pair_known x y o p) [
         | inl z ↦ (let f = z.0 in let g = z.1 in absurd (b.0 (refl, cc)))
         | inr d ↦ elim ((a.trust x y).0 (inr b.1)) [ inl i ↦ inl i | inr k ↦ inr (off_pair x y o p false _ d ∙ k) ]

@@ -1,3 +1,6 @@
 pub mod Choosing
+pub mod Still
 pub mod Cards
 pub mod Records
+pub mod Beginning
+pub mod Settled

@@ -3,15 +3,15 @@ use Rattle.std.proofs.Common.{◌≡◌, ℕ, suc, ◌-◌, ◌<◌, ◌≤◌, 
 use mathlib.Core.Logic.Iff
 use Rattle.std.proofs.lemmas.Bool.{cases_eq, cases_lt, both_ways, lt-ltb, le-ltb, cond-true, cond-false}
 use Rattle.law.specs.Sound.{Link}
-use Rattle.law.specs.Requests.{accepted, link, suspend, resume, withdraw}
+use Rattle.law.specs.Requests.{Request, accepted, link, suspend, resume, withdraw}
 use Rattle.law.specs.Histories.{Event, accepting, Standing, Suspended}
-use Rattle.law.proofs.Changes.{kind, issued_still, held_still, trusted_still, standing_still, suspended_still}
+use Rattle.law.proofs.Changes.{kind}
 use Rattle.law.proofs.Alikes.{one}
 use Rattle.accord.specs.Tables.{Tables, Recorded, Resting}
 use Rattle.accord.specs.Agree.{Agree}
 use Rattle.accord.specs.Settling.{with_record, rested, without_record, At}
 use Rattle.accord.proofs.Choosing.{at_it, at_other}
-use Rattle.accord.proofs.Cards.{other_kind}
+use Rattle.accord.proofs.Still.{homes_still, holdings_still, trust_still, recorded_still, resting_still}
 
 same_suspend : (l m : Link) → suspend l ≡ suspend m → l ≡ m
 same_suspend l m e = cc
@@ -48,13 +48,13 @@ resting_more t l m = (
 module _ (t : Tables) (h : List Event) (n : ℕ) (a : Agree t h) where
   pub agree_link : (l : Link) → (Recorded t l → ⊥) → Agree (with_record t l) (accepting n (link l) h)
   agree_link l new =
-      let e : Event = record { request = link l; strip = n; answer = accepted } in
+      let q : Request = link l in
       record {
-        homes = λ c o. Iff.trans (issued_still e h (λ x. ((λ i. omega arith), λ i. omega arith)) c o) (a.homes c o);
-        holdings = λ c r. Iff.trans (held_still e h (λ x. ((λ i. omega arith), (λ i. omega arith), λ i. omega arith)) c r) (a.holdings c r);
-        trust = λ o p. Iff.trans (trusted_still e h (λ x. ((λ i. omega arith), λ i. omega arith)) o p) (a.trust o p);
+        homes = homes_still n a q refl;
+        holdings = holdings_still n a q refl;
+        trust = trust_still n a q refl;
         standing = λ m. Iff.trans (one n h l m) (Iff.trans (or_with m) (Iff.symm (recorded_more t l m)));
-        suspended = λ m. Iff.trans (suspended_still e h (λ x. ((λ i. omega arith), (λ i. omega arith), λ i. omega arith)) m) (Iff.trans (a.suspended m) (resting_more t l m));
+        suspended = λ m. Iff.trans (resting_still n a q refl m) (resting_more t l m);
         apart = separate;
       }
     where
@@ -82,12 +82,12 @@ module _ (t : Tables) (h : List Event) (n : ℕ) (a : Agree t h) where
 
     pub agree_suspend : Agree (rested t k true) (accepting n (suspend l) h)
     agree_suspend =
-        let e : Event = record { request = suspend l; strip = n; answer = accepted } in
+        let q : Request = suspend l in
         record {
-          homes = λ c o. Iff.trans (issued_still e h (λ x. ((λ i. omega arith), λ i. omega arith)) c o) (a.homes c o);
-          holdings = λ c r. Iff.trans (held_still e h (λ x. ((λ i. omega arith), (λ i. omega arith), λ i. omega arith)) c r) (a.holdings c r);
-          trust = λ o p. Iff.trans (trusted_still e h (λ x. ((λ i. omega arith), λ i. omega arith)) o p) (a.trust o p);
-          standing = λ m. Iff.trans (standing_still e h (λ x. ((λ i. omega arith), (λ i. omega arith), λ i. omega arith)) m) (a.standing m);
+          homes = homes_still n a q refl;
+          holdings = holdings_still n a q refl;
+          trust = trust_still n a q refl;
+          standing = recorded_still n a q refl;
           suspended = λ m. (to m, from m);
           apart = a.apart;
         }
@@ -100,25 +100,25 @@ module _ (t : Tables) (h : List Event) (n : ℕ) (a : Agree t h) where
         from m x = elim (cases_eq x.0 k) [
           | inl f ↦ (let g : l ≡ m = sym at.1 ∙ ap t.link (sym f) ∙ x.2 in inl (refl, cc))
           | inr d ↦ inr (
-            (λ b. elim b.1 [ inl i ↦ other_kind (suspend l) (resume m) (λ i. omega arith) i | inr i ↦ other_kind (suspend l) (withdraw m) (λ i. omega arith) i ]),
+            (λ b. elim b.1 [ inl i ↦ (let same = i in cc) | inr i ↦ (let same = i in cc) ]),
             (a.suspended m).1 (x.0, x.1, x.2, sym (at_other x.0 k true _ d) ∙ x.3),
           )
         ]
 
     pub agree_resume : Agree (rested t k false) (accepting n (resume l) h)
     agree_resume =
-        let e : Event = record { request = resume l; strip = n; answer = accepted } in
+        let q : Request = resume l in
         record {
-          homes = λ c o. Iff.trans (issued_still e h (λ x. ((λ i. omega arith), λ i. omega arith)) c o) (a.homes c o);
-          holdings = λ c r. Iff.trans (held_still e h (λ x. ((λ i. omega arith), (λ i. omega arith), λ i. omega arith)) c r) (a.holdings c r);
-          trust = λ o p. Iff.trans (trusted_still e h (λ x. ((λ i. omega arith), λ i. omega arith)) o p) (a.trust o p);
-          standing = λ m. Iff.trans (standing_still e h (λ x. ((λ i. omega arith), (λ i. omega arith), λ i. omega arith)) m) (a.standing m);
+          homes = homes_still n a q refl;
+          holdings = holdings_still n a q refl;
+          trust = trust_still n a q refl;
+          standing = recorded_still n a q refl;
           suspended = λ m. (to m, from m);
           apart = a.apart;
         }
       where
         to : (m : Link) → Suspended (accepting n (resume l) h) m → Resting (rested t k false) m
-        to m (inl b) = absurd (other_kind (resume l) (suspend m) (λ i. omega arith) b.1)
+        to m (inl b) = absurd (let same = b.1 in cc)
         to m (inr b) = let x = (a.suspended m).0 b.1 in elim (cases_eq x.0 k) [
           | inl f ↦ (let g : l ≡ m = sym at.1 ∙ ap t.link (sym f) ∙ x.2 in absurd (b.0 (refl, inl (cc))))
           | inr d ↦ (x.0, x.1, x.2, at_other x.0 k false _ d ∙ x.3)
@@ -128,7 +128,7 @@ module _ (t : Tables) (h : List Event) (n : ℕ) (a : Agree t h) where
         from m x = elim (cases_eq x.0 k) [
           | inl f ↦ absurd (both_ways _ (at_it x.0 k false _ f) x.3)
           | inr d ↦ inr (
-            (λ b. elim b.1 [ inl i ↦ d (one_place x.0 x.1 (x.2 ∙ sym (same_resume l m i))) | inr i ↦ other_kind (resume l) (withdraw m) (λ i. omega arith) i ]),
+            (λ b. elim b.1 [ inl i ↦ d (one_place x.0 x.1 (x.2 ∙ sym (same_resume l m i))) | inr i ↦ (let same = i in cc) ]),
             (a.suspended m).1 (x.0, x.1, x.2, sym (at_other x.0 k false _ d) ∙ x.3),
           )
         ]
@@ -186,11 +186,11 @@ module _ (t : Tables) (h : List Event) (n : ℕ) (a : Agree t h) where
 
     pub agree_withdraw : Agree (without_record t k) (accepting n (withdraw l) h)
     agree_withdraw =
-        let e : Event = record { request = withdraw l; strip = n; answer = accepted } in
+        let q : Request = withdraw l in
         record {
-          homes = λ c o. Iff.trans (issued_still e h (λ x. ((λ i. omega arith), λ i. omega arith)) c o) (a.homes c o);
-          holdings = λ c r. Iff.trans (held_still e h (λ x. ((λ i. omega arith), (λ i. omega arith), λ i. omega arith)) c r) (a.holdings c r);
-          trust = λ o p. Iff.trans (trusted_still e h (λ x. ((λ i. omega arith), λ i. omega arith)) o p) (a.trust o p);
+          homes = homes_still n a q refl;
+          holdings = holdings_still n a q refl;
+          trust = trust_still n a q refl;
           standing = λ m. (stands m, to_stand m);
           suspended = λ m. (rest m, to_rest m);
           apart = separate;
@@ -203,7 +203,7 @@ module _ (t : Tables) (h : List Event) (n : ℕ) (a : Agree t h) where
         not_ended m i lt e d f = d (one_place i lt (e ∙ sym (same_withdraw l m f)))
 
         stands : (m : Link) → Standing (accepting n (withdraw l) h) m → Recorded (without_record t k) m
-        stands m (inl b) = elim b.1 [ inl i ↦ absurd (other_kind (withdraw l) (link m) (λ i. omega arith) i) | inr i ↦ (let j = ap kind i.1 in absurd (omega arith)) ]
+        stands m (inl b) = elim b.1 [ inl i ↦ absurd (let same = i in cc) | inr i ↦ (let j = ap kind i.1 in absurd (omega arith)) ]
         stands m (inr b) =
             let x = (a.standing m).0 b.1 in
             let p = new_place x.0 x.1 (gone m x.0 x.1 x.2 b.0) in
@@ -217,7 +217,7 @@ module _ (t : Tables) (h : List Event) (n : ℕ) (a : Agree t h) where
             inr ((λ b. not_ended m (was x.0) lt e w.other b.1), (a.standing m).1 (was x.0, lt, e))
 
         rest : (m : Link) → Suspended (accepting n (withdraw l) h) m → Resting (without_record t k) m
-        rest m (inl b) = absurd (other_kind (withdraw l) (suspend m) (λ i. omega arith) b.1)
+        rest m (inl b) = absurd (let same = b.1 in cc)
         rest m (inr b) =
             let x = (a.suspended m).0 b.1 in
             let p = new_place x.0 x.1 (gone m x.0 x.1 x.2 (λ y. b.0 (y.0, inr y.1))) in
@@ -229,7 +229,7 @@ module _ (t : Tables) (h : List Event) (n : ℕ) (a : Agree t h) where
             let lt = w.within x.1 in
             let e : t.link (was x.0) ≡ m = sym w.link_is ∙ x.2 in
             inr (
-              (λ b. elim b.1 [ inl i ↦ other_kind (withdraw l) (resume m) (λ i. omega arith) i | inr i ↦ not_ended m (was x.0) lt e w.other i ]),
+              (λ b. elim b.1 [ inl i ↦ (let same = i in cc) | inr i ↦ not_ended m (was x.0) lt e w.other i ]),
               (a.suspended m).1 (was x.0, lt, e, sym w.rests ∙ x.3),
             )
 

@@ -1,7 +1,11 @@
-// The register's tables and a history of requests: what it means that they agree. Nothing carries the statements of
-// specs/Accord.antt yet.
+// The register's tables and a history of requests: what it means that they agree, and what keeps it so. Nothing runs here.
 #![tactic(auto)]
 
-pub fn stated() -> u8 {
-    0
-}
+ghost use Rattle.accord.specs.Accord.{EmptyAgrees, SettledAgrees, AgreeProper};
+
+// Tables and history begin in accord, and each request that is settled by the tables keeps it.
+pub fn accord_is_kept()
+    ensures begun { EmptyAgrees }
+    ensures kept { SettledAgrees }
+    ensures proper { AgreeProper }
+{}

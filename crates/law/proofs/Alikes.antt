@@ -8,7 +8,7 @@ use Rattle.law.specs.Sound.{Link}
 use Rattle.law.specs.Requests.{Request, accepted, issue, assign, relieve, handback, link, box, suspend, resume, withdraw}
 use Rattle.law.specs.Histories.{Event, accepting, Since, Is, Either, Enters, Issued, Holds, Trusts, Standing, Suspended, scene, Alike}
 use Rattle.law.specs.Promises.{Within, sent}
-use Rattle.law.proofs.Changes.{kind, since_on, issued_still, held_still, trusted_still, suspended_still}
+use Rattle.law.proofs.Changes.{kind, or_both, since_on, issued_still, held_still, trusted_still, suspended_still}
 
 -- the second says what the first says, and that these links stand
 pub record Adds (ls : List Link) (h h' : List Event) : Type 0 where
@@ -29,9 +29,6 @@ alike_back x = record {
 
 since_same : (B E : Request → Type 0) (e : Event) (h h' : List Event) → Since B E h ↔ Since B E h' → Since B E (e ∷ h) ↔ Since B E (e ∷ h')
 since_same B E e h h' x = (since_on B E e h h' x.0, since_on B E e h' h x.1)
-
-or_same_left : {A B C : Type 0} → A ↔ C → (A ⊎ B) ↔ (C ⊎ B)
-or_same_left f = (λ x. elim x [ inl a ↦ inl (f.0 a) | inr b ↦ inr b ], λ x. elim x [ inl a ↦ inl (f.1 a) | inr b ↦ inr b ])
 
 own_or : (o p : ℕ) (h h' : List Event) → Trusts h o p ↔ Trusts h' o p → (e : Event) → Trusts (e ∷ h) o p ↔ Trusts (e ∷ h') o p
 own_or o p h h' x e = (go h h' x.0, go h' h x.1)
@@ -131,13 +128,13 @@ alike_adds d x y = record {
   issued = λ c o. Iff.trans (x.issued c o) (Iff.symm (y.issued c o));
   held = λ c o. Iff.trans (x.held c o) (Iff.symm (y.held c o));
   trusted = λ c o. Iff.trans (x.trusted c o) (Iff.symm (y.trusted c o));
-  standing = λ p. Iff.trans (x.standing p) (Iff.trans (or_same_left (perm_mem d, perm_mem (Permᴰ.symm d))) (Iff.symm (y.standing p)));
+  standing = λ p. Iff.trans (x.standing p) (Iff.trans (or_both (perm_mem d, perm_mem (Permᴰ.symm d)) Iff.rfl) (Iff.symm (y.standing p)));
   suspended = λ p. Iff.trans (x.suspended p) (Iff.symm (y.suspended p));
 }
 
 -- one LINK more
 pub one : (n : ℕ) (h : List Event) (l q : Link) → Standing (accepting n (link l) h) q ↔ ((q ≡ l) ⊎ Standing h q)
-one n h l q = Iff.trans ((link_adds n h l).standing q) (or_same_left (only, λ e. Memᴰ.head e))
+one n h l q = Iff.trans ((link_adds n h l).standing q) (or_both (only, λ e. Memᴰ.head e) Iff.rfl)
   where
     only : Memᴰ q (l ∷ []) → q ≡ l
     only m = elim (Memᴰ.cases_cons m) [ inl e ↦ e | inr z ↦ absurd (Memᴰ.not-nil z) ]

@@ -1,5 +1,7 @@
 -- How each event changes what a history says.
 use Rattle.std.proofs.Common.{◌≡◌, ℕ, ◌<◌, ◌⊎◌, ◌↔◌, List, ◌∷◌, refl, ap, inl, inr, arith}
+use mathlib.Core.Logic.{⊎_map}
+use mathlib.Core.Logic.Iff
 use Rattle.law.specs.Sound.{Link}
 use Rattle.law.specs.Requests.{Request, Answer, accepted, refused, refused_at, granted, denied, issue, assign, relieve, handback, trust, distrust, link, try, box, suspend, resume, withdraw, may}
 use Rattle.law.specs.Histories.{Event, Since, Is, Either, Enters, Issued, Holds, Trusts, Standing, Suspended, scene}
@@ -43,8 +45,8 @@ module _ (B E : Request → Type 0) (e : Event) (h : List Event) where
   since_on h' f (inl x) = inl x
   since_on h' f (inr x) = inr (x.0, f x.1)
 
-pub or_same : {A B C : Type 0} → B ↔ C → (A ⊎ B) ↔ (A ⊎ C)
-or_same f = (λ x. elim x [ inl a ↦ inl a | inr b ↦ inr (f.0 b) ], λ x. elim x [ inl a ↦ inl a | inr b ↦ inr (f.1 b) ])
+pub or_both : {A B C D : Type 0} → A ↔ C → B ↔ D → (A ⊎ B) ↔ (C ⊎ D)
+or_both f g = (⊎_map f.0 g.0, ⊎_map f.1 g.1)
 
 -- what an event leaves alone, by its kind
 module _ (e : Event) (h : List Event) where
@@ -55,7 +57,7 @@ module _ (e : Event) (h : List Event) where
   held_still k c r = since_still (Is (assign c r)) (Either (relieve c r) (handback c)) e h (λ a i. (k a).0 (ap kind i)) (λ a y. elim y [ inl i ↦ (k a).1 (ap kind i) | inr i ↦ (k a).2 (ap kind i) ])
 
   pub trusted_still : (e.answer ≡ accepted → (kind e.request ≡ 7 → ⊥) × (kind e.request ≡ 4 → ⊥)) → (o p : ℕ) → Trusts (e ∷ h) o p ↔ Trusts h o p
-  trusted_still k o p = or_same (since_still (Is (trust o p)) (Is (distrust o p)) e h (λ a i. (k a).0 (ap kind i)) (λ a i. (k a).1 (ap kind i)))
+  trusted_still k o p = or_both Iff.rfl (since_still (Is (trust o p)) (Is (distrust o p)) e h (λ a i. (k a).0 (ap kind i)) (λ a i. (k a).1 (ap kind i)))
 
   pub standing_still : (e.answer ≡ accepted → (kind e.request ≡ 1 → ⊥) × (kind e.request ≡ 2 → ⊥) × (kind e.request ≡ 8 → ⊥)) → (l : Link) → Standing (e ∷ h) l ↔ Standing h l
   standing_still k l = since_still (Enters l) (Is (withdraw l)) e h (λ a y. elim y [ inl i ↦ (k a).0 (ap kind i) | inr i ↦ (k a).1 (ap kind i.1) ]) (λ a i. (k a).2 (ap kind i))

@@ -68,9 +68,6 @@ targets_in a b (l ∷ ls) m = go (eqb a l.from) refl m (targets_in a b ls)
     ]
     go false e k rest = Memᴰ.tail (rest k)
 
-clash : {b : Bool} → b ≡ true → b ≡ false → ⊥
-clash {b} p q = both_ways b q p
-
 -- the digit that bit i of w tests
 abbrev pub digit : ℕ → ℕ → Bool
 digit w i = eqb (w / 2 ^ i % 2) 1
@@ -217,7 +214,7 @@ module _ (bank : List OfficeModel) (lawful : LawfulBank bank) (cs : List ℕ) (l
       | inr e ↦ not_from_false _ e
     ])),
     (λ m. let t = keep_in (λ a. not (trusts f.trust o (office_of a))) cs a m in
-        (codes_in bank lawful a (subst (λ z. Memᴰ a z) (sym listed) t.0), λ x. clash (trusting o (office_of a) x) (not-true _ t.1))),
+        (codes_in bank lawful a (subst (λ z. Memᴰ a z) (sym listed) t.0), λ x. both_ways _ (not-true _ t.1) (trusting o (office_of a) x))),
   )
 
   -- rule 1 at the chains from a, if it need hold at b only where the second test says so
@@ -233,8 +230,8 @@ module _ (bank : List OfficeModel) (lawful : LawfulBank bank) (cs : List ℕ) (l
       let u = and_parts (closed (next bank cs f.links) xs) _ t.0 in
       let m = stays_in (next bank cs f.links) (Step bank s.linked) complete xs u.0 (among_in a xs u.1) l.1 in
       elim (or_cases (not (eqb (office_of a) (office_of b))) _ (all_in (λ b. not (eqb (office_of a) (office_of b)) || (over bank a b || not (need b))) xs t.1 b m)) [
-        | inl i ↦ absurd (clash (eq-eqb (office_of a) (office_of b) same) (not-true _ i))
-        | inr i ↦ elim (or_cases (over bank a b) _ i) [ inl j ↦ over_is bank lawful a b j | inr j ↦ absurd (clash must (not-true _ j)) ]
+        | inl i ↦ absurd (both_ways _ (not-true _ i) (eq-eqb (office_of a) (office_of b) same))
+        | inr i ↦ elim (or_cases (over bank a b) _ i) [ inl j ↦ over_is bank lawful a b j | inr j ↦ absurd (both_ways _ (not-true _ j) must) ]
       ]
 
   abbrev pub hierarchy : ℕ → Bool
@@ -255,7 +252,7 @@ module _ (bank : List OfficeModel) (lawful : LawfulBank bank) (cs : List ℕ) (l
       ]
 
   pub exclusion_by : (n : ℕ) → exclusion n (λ o k c. false) ≡ true → Exclusion bank s
-  exclusion_by n e o k c x = clash (exclusion_else n (λ o k c. false) e o k c x) refl
+  exclusion_by n e o k c x = both_ways _ refl (exclusion_else n (λ o k c. false) e o k c x)
 
   abbrev pub exposure : ℕ → (ℕ → ℕ → Bool) → Bool
   exposure n spare = sets bank (λ o k. few n (outsiders cs f.trust o) o k || spare o k)
@@ -270,7 +267,7 @@ module _ (bank : List OfficeModel) (lawful : LawfulBank bank) (cs : List ℕ) (l
   sound_by n p q r = record {
     hierarchy = hierarchy_by n p;
     exclusion = exclusion_by n q;
-    exposure = λ o k x. clash (exposure_else n (λ o k. false) r o k x) refl;
+    exposure = λ o k x. both_ways _ refl (exposure_else n (λ o k. false) r o k x);
   }
 
   -- the byte has these places, the lowest of them is p, and the chain to it is the best
@@ -304,7 +301,7 @@ module _ (bank : List OfficeModel) (lawful : LawfulBank bank) (cs : List ℕ) (l
         (λ q. (
           (λ m. elim (cases_lt q (length ms)) [
             | inl h ↦ reach start xs exact o k q h (sym (mark q h) ∙ m)
-            | inr h ↦ absurd (clash m (bit_past places (length ms) q (ltb-true places (2 ^ length ms) b'.0) h))
+            | inr h ↦ absurd (both_ways _ (bit_past places (length ms) q (ltb-true places (2 ^ length ms) b'.0) h) m)
           ]),
           λ r. mark q r.0 ∙ met q r,
         )),
@@ -313,7 +310,7 @@ module _ (bank : List OfficeModel) (lawful : LawfulBank bank) (cs : List ℕ) (l
           shown = record {
             reached = reach start xs exact o k p (ltb-true p (length ms) c''.0) c''.1;
             lowest = λ q r. elim (cases_lt q p) [
-              | inl h ↦ absurd (clash (met q r) (not-true (test q) (all_in (λ q. not (test q)) (upto p) c'.1 q (in_upto p q h))))
+              | inl h ↦ absurd (both_ways _ (not-true (test q) (all_in (λ q. not (test q)) (upto p) c'.1 q (in_upto p q h))) (met q r))
               | inr h ↦ h
             ];
           };
@@ -363,7 +360,7 @@ module _ (bank : List OfficeModel) (lawful : LawfulBank bank) (cs : List ℕ) (l
             role_is bank lawful b r.1,
             eqb-true (office_of a) (office_of b) o.0,
             (x ∷ ys, subst (λ z. Chain (Step bank s.linked) z b (x ∷ ys)) best.starts best.leads),
-            λ y. clash (is_over bank lawful a b y) (not-true _ o.1),
+            λ y. both_ways _ (not-true _ o.1) (is_over bank lawful a b y),
           ),
           (λ a' b' m. elim (cases_Bool (before (a ∷ b ∷ []) (a' ∷ b' ∷ []))) [
             | inl i ↦ is_before (a ∷ b ∷ []) (a' ∷ b' ∷ []) i

@@ -104,9 +104,6 @@ module _ (bank : List OfficeModel) (a : Answer) (Else Else' : Answer → Type 0)
   first_same (sound to back r) (inl x) = let y = x.1.1 in inl ((λ k. x.0 (sound_less bank to k)), (x.1.0, (y.0, y.1, finds_same bank to back y.0 y.1 y.2, y.3), x.1.2))
   first_same (sound to back r) (inr x) = inr ((λ k. x.0 (λ s. k (sound_less bank back s))), first_same r x.1)
 
-pub not_same : {A B : Type 0} → A ↔ B → (A → ⊥) ↔ (B → ⊥)
-not_same e = ((λ n b. n (e.1 b)), λ n a. n (e.0 a))
-
 module _ (bank : List OfficeModel) {h h' : List Event} (same : Alike h h') (n : ℕ) where
   force : (p : Link) → InForce h p ↔ InForce h' p
   force p = ((λ x. ((same.standing p).0 x.0, λ s. x.1 ((same.suspended p).1 s))), λ x. ((same.standing p).1 x.0, λ s. x.1 ((same.suspended p).0 s)))
@@ -127,8 +124,8 @@ module _ (bank : List OfficeModel) {h h' : List Event} (same : Alike h h') (n : 
 
   checks_same : (q : Request) → SameChecks (checks bank h n q) (checks bank h' n q)
   checks_same (issue c o) = named Iff.rfl (named Iff.rfl (named ((λ x. (x.0, (same.issued c x.0).0 x.1)), λ x. (x.0, (same.issued c x.0).1 x.1)) none))
-  checks_same (assign c r) = named Iff.rfl (named Iff.rfl (named (unissued c) (named Iff.rfl (named (not_same (same.issued c (office_of r))) (named (same.held c r) (sound (after_to (assign c r)) (after_back (assign c r)) none))))))
-  checks_same (relieve c r) = named Iff.rfl (named (unissued c) (named Iff.rfl (named (not_same (same.issued c (office_of r))) (named (not_same (same.held c r)) none))))
+  checks_same (assign c r) = named Iff.rfl (named Iff.rfl (named (unissued c) (named Iff.rfl (named (Iff.not (same.issued c (office_of r))) (named (same.held c r) (sound (after_to (assign c r)) (after_back (assign c r)) none))))))
+  checks_same (relieve c r) = named Iff.rfl (named (unissued c) (named Iff.rfl (named (Iff.not (same.issued c (office_of r))) (named (Iff.not (same.held c r)) none))))
   checks_same (handback c) = named Iff.rfl (named (unissued c) none)
   checks_same (trust o p) = named Iff.rfl none
   checks_same (distrust o p) = named Iff.rfl (named Iff.rfl (named Iff.rfl (sound (after_to (distrust o p)) (after_back (distrust o p)) none)))
@@ -136,9 +133,9 @@ module _ (bank : List OfficeModel) {h h' : List Event} (same : Alike h h') (n : 
   checks_same (try p) = linking_same p
   checks_same (box []) = none
   checks_same (box (p ∷ ps)) = named Iff.rfl none
-  checks_same (suspend p) = named (not_same (same.standing p)) (named (same.suspended p) none)
-  checks_same (resume p) = named (not_same (same.standing p)) (named (force p) none)
-  checks_same (withdraw p) = named (not_same (same.standing p)) none
+  checks_same (suspend p) = named (Iff.not (same.standing p)) (named (same.suspended p) none)
+  checks_same (resume p) = named (Iff.not (same.standing p)) (named (force p) none)
+  checks_same (withdraw p) = named (Iff.not (same.standing p)) none
   checks_same (may c r) = named Iff.rfl (named Iff.rfl (named (unissued c) (named Iff.rfl none)))
 
   force_steps : (a b : ℕ) → Step bank (InForce h) a b ↔ Step bank (InForce h') a b

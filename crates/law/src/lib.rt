@@ -6,59 +6,45 @@ ghost use Rattle.law.specs.Promises.{RightIsSound, OneOutcome, SomeAnswer, Sixte
 ghost use Rattle.law.specs.Examples.{WorkedExamples};
 
 // Every right history is sound, and nothing mends what is unsound but fewer links, fewer holdings or more trust.
-pub fn histories_are_sound() -> u8
+pub fn histories_are_sound()
     ensures sound { RightIsSound }
     ensures scenes { MoreNeverMends }
     ensures histories { MoreSaidNeverMends }
-{
-    0
-}
+{}
 
 // Each request has one outcome after a right history, and only what is accepted changes anything.
-pub fn outcomes_are_fixed() -> u8
+pub fn outcomes_are_fixed()
     ensures one { OneOutcome }
     ensures some { SomeAnswer }
     ensures fits { ChainFits }
     ensures changes { OnlyAcceptedChange }
     ensures kept { AllKept }
     ensures full { FullAt256 }
-{
-    0
-}
+{}
 
 // When the last check refuses.
-pub fn sixteen_is_exact() -> u8
+pub fn sixteen_is_exact()
     ensures single { SixteenExactly }
     ensures boxed { BoxSixteenExactly }
-{
-    0
-}
+{}
 
 // A box comes to the same as its links in any order.
-pub fn boxes_have_no_order() -> u8
+pub fn boxes_have_no_order()
     ensures { BoxInAnyOrder }
-{
-    0
-}
+{}
 
 // How chains grow with links.
-pub fn chains_grow() -> u8
+pub fn chains_grow()
     ensures more { OneLinkMore }
     ensures none { NoLink }
-{
-    0
-}
+{}
 
 // The promises, whole.
-pub fn guarantee_stands() -> u8
+pub fn guarantee_stands()
     ensures { Guarantee }
-{
-    0
-}
+{}
 
 // The worked examples over the sample bank.
-pub fn examples_follow() -> u8
+pub fn examples_follow()
     ensures { WorkedExamples }
-{
-    0
-}
+{}

@@ -1,30 +1,27 @@
 -- Tables of steps stay exact as links are added, and what a search by them finds.
-use Rattle.std.proofs.Common.{◌≡◌, ℕ, ◌<◌, ◌&&◌, ◌||◌, eqb, ◌⊎◌, List, Decides, sym, ap, ◌∙◌, ap₂, inl, inr, ⊎_elim}
+use Rattle.std.proofs.Common.{◌≡◌, ℕ, ◌<◌, ◌&&◌, ◌||◌, eqb, ◌⊎◌, List, Decides, ap, ap₂, inl, inr, ⊎_elim, arith}
 use Rattle.std.proofs.lemmas.Bool.{lt-ltb}
-use Rattle.std.proofs.lemmas.Bool.Decides.{Decides-and, Decides-or, Decides-eqb}
+use Rattle.std.proofs.lemmas.Bool.Decides.{Decides-and, Decides-or, Decides-eqb, Decides-at, Decides-like, nat_tests}
 use Rattle.search.specs.Asked.{Steps}
-use Rattle.search.specs.Chains.{Chain, Reached, Best}
-use Rattle.search.proofs.Chaining.{chain_wider}
+use Rattle.search.specs.Chains.{Best}
 use Rattle.offices.specs.Model.{OfficeModel}
-use Rattle.offices.proofs.Bit.{and_true}
 use Rattle.law.specs.Roles.{Over}
 use Rattle.law.specs.Sound.{Link, Step}
 use Rattle.reach.specs.declared.step_table.StepTable.{StepTable}
 use Rattle.reach.specs.Steps.{has_step, WithStep}
 use Rattle.reach.specs.Exact.{WithLink, ExactlySteps}
-use Rattle.reach.proofs.Exactness.{step_alike}
+use Rattle.law.proofs.Scenes.{step_more}
+use Rattle.law.proofs.Same.{best_alike}
 
 module _ (bank : List OfficeModel) (linked : Link → Type 0) where
   pub steps_more :
       (t t' : StepTable) (u v : ℕ) → u < 1024 → v < 1024 → WithStep t u v t'
       → ExactlySteps bank linked t → ExactlySteps bank (WithLink linked u v) t'
   steps_more t t' u v lu lv e x a b =
-      let test : has_step t' a b ≡ (has_step t a b || (eqb a u && eqb b v)) =
-      e a b ∙ ap₂ (λ p q. has_step t a b || ((eqb a u && p) && (eqb b v && q))) (lt-ltb u 1024 lu) (lt-ltb v 1024 lv)
-      ∙ ap₂ (λ p q. has_step t a b || (p && q)) (and_true (eqb a u)) (and_true (eqb b v)) in
-      let d : Decides (has_step t a b || (eqb a u && eqb b v)) (Step bank linked a b ⊎ ((a ≡ u) × (b ≡ v))) =
-      Decides-or (has_step t a b) (eqb a u && eqb b v) (x a b) (Decides-and (eqb a u) (eqb b v) (Decides-eqb a u) (Decides-eqb b v)) in
-      ((λ h. into (d.0 (sym test ∙ h))), (λ s. test ∙ d.1 (back s)))
+      Decides-at (has_step t' a b) (has_step t a b || (eqb a u && eqb b v))
+      (let is = e a b in let small = lt-ltb u 1024 lu in let low = lt-ltb v 1024 lv in grind (arith, nat_tests))
+      (Decides-like (has_step t a b || (eqb a u && eqb b v)) into back
+      (Decides-or (has_step t a b) (eqb a u && eqb b v) (x a b) (Decides-and (eqb a u) (eqb b v) (Decides-eqb a u) (Decides-eqb b v))))
     where
       into : Step bank linked a b ⊎ ((a ≡ u) × (b ≡ v)) → Step bank (WithLink linked u v) a b
       into (inl (inl s)) = inl s
@@ -40,42 +37,20 @@ module _ (bank : List OfficeModel) (linked : Link → Type 0) where
   pub steps_alike :
       (linked' : Link → Type 0) → ((l : Link) → linked l → linked' l) → ((l : Link) → linked' l → linked l)
       → (t : StepTable) → ExactlySteps bank linked t → ExactlySteps bank linked' t
-  steps_alike linked' into back t x a b = (
-    (λ h. step_alike bank linked linked' into a b ((x a b).0 h)),
-    (λ s. (x a b).1 (step_alike bank linked' linked back a b s)),
-  )
+  steps_alike linked' into back t x a b =
+      Decides-like (has_step t a b) (step_more bank linked linked' into a b) (step_more bank linked' linked back a b) (x a b)
 
   pub steps_none :
       ((l : Link) → linked l → ⊥) → (t : StepTable)
       → ((a b : ℕ) → Decides (has_step t a b) ((a ≡ b → ⊥) × Over bank a b)) → ExactlySteps bank linked t
-  steps_none none t e a b = ((λ h. inl ((e a b).0 h)), (λ s. (e a b).1 (⊎_elim (λ (p : (a ≡ b → ⊥) × Over bank a b). p) (λ (l : linked (record { from = a; to = b })). absurd (none _ l)) s)))
+  steps_none none t e a b =
+      Decides-like (has_step t a b) (λ s. inl s)
+      (⊎_elim (λ (p : (a ≡ b → ⊥) × Over bank a b). p) (λ (l : linked (record { from = a; to = b })). absurd (none _ l)))
+      (e a b)
 
-  module _ (t : StepTable) (x : ExactlySteps bank linked t) where
-    pub chain_by_steps : {a b : ℕ} {xs : List ℕ} → Chain (Steps (has_step t)) a b xs → Chain (Step bank linked) a b xs
-    chain_by_steps c = chain_wider (λ a b. (x a b).0) c
-
-    pub chain_in_steps : {a b : ℕ} {xs : List ℕ} → Chain (Step bank linked) a b xs → Chain (Steps (has_step t)) a b xs
-    chain_in_steps c = chain_wider (λ a b. (x a b).1) c
-
-    -- the best chain by the steps, from the same starts in other words
-    pub best_by_steps :
-        (Start Start' : ℕ → Type 0) → ((a : ℕ) → Start a → Start' a) → ((a : ℕ) → Start' a → Start a)
-        → (b : ℕ) (xs : List ℕ) → Best (Steps (has_step t)) Start b xs → Best (Step bank linked) Start' b xs
-    best_by_steps Start Start' into back b xs p = record {
-      from = p.from;
-      starts = into p.from p.starts;
-      leads = chain_by_steps p.leads;
-      shortest = λ a ys s c. p.shortest a ys (back a s) (chain_in_steps c);
-      first = λ a ys s c e. p.first a ys (back a s) (chain_in_steps c) e;
-    }
-
-    -- whatever is reached by the steps, and nothing else
-    pub reached_by_steps :
-        (Start Start' : ℕ → Type 0) → ((a : ℕ) → Start a → Start' a)
-        → (b : ℕ) → Reached (Steps (has_step t)) Start b → Reached (Step bank linked) Start' b
-    reached_by_steps Start Start' into b r = (r.0, into r.0 r.1, (r.2.0, chain_by_steps r.2.1))
-
-    pub reached_in_steps :
-        (Start Start' : ℕ → Type 0) → ((a : ℕ) → Start' a → Start a)
-        → (b : ℕ) → Reached (Step bank linked) Start' b → Reached (Steps (has_step t)) Start b
-    reached_in_steps Start Start' back b r = (r.0, back r.0 r.1, (r.2.0, chain_in_steps r.2.1))
+  -- the best chain by the steps, from the same starts in other words
+  pub best_by_steps :
+      (t : StepTable) → ExactlySteps bank linked t
+      → (Start Start' : ℕ → Type 0) → ((a : ℕ) → Start a → Start' a) → ((a : ℕ) → Start' a → Start a)
+      → (b : ℕ) (xs : List ℕ) → Best (Steps (has_step t)) Start b xs → Best (Step bank linked) Start' b xs
+  best_by_steps t x Start Start' into back b xs p = best_alike Start Start' (λ a b. (x a b).0) (λ a b. (x a b).1) (λ a. (into a, back a)) p

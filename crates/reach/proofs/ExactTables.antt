@@ -1,14 +1,16 @@
 -- Tables stay exact as links are entered.
 use Rattle.std.proofs.Common.{◌≡◌, ℕ, Bool, true, ◌&&◌, ◌||◌, List, ◌∙◌, ap₂, ⊎_elim}
 use Rattle.std.proofs.lemmas.Bool.{cases_Bool}
+use Rattle.std.proofs.lemmas.Bool.Decides.{Decides-at}
 use Rattle.offices.specs.Model.{OfficeModel}
 use Rattle.law.specs.Roles.{LawfulBank, IsRole}
 use Rattle.law.specs.Sound.{Link}
+use Rattle.law.proofs.Scenes.{over_roles}
 use Rattle.reach.specs.declared.table.ReachTable.{ReachTable}
 use Rattle.reach.specs.Rows.{joined}
 use Rattle.reach.specs.Tables.{code_reaches, card_reaches, owner_reaches, Entered}
 use Rattle.reach.specs.Exact.{Exact, Only, WithLink, ExactTable, JuniorTable}
-use Rattle.reach.proofs.Exactness.{exact_more, exact_alike, exact_same, exact_none, exact_role, over_role}
+use Rattle.reach.proofs.Exactness.{exact_more, exact_alike, exact_none, exact_role}
 
 module _ (bank : List OfficeModel) (held outsiders : ℕ → ℕ → Type 0) where
   module _ (linked : Link → Type 0) where
@@ -18,7 +20,7 @@ module _ (bank : List OfficeModel) (held outsiders : ℕ → ℕ → Type 0) whe
     table_more t t' u v role e x =
         let g = code_reaches t v in let exact_v = x.roles v role in
         let row : (Start : ℕ → Type 0) (f f' : ℕ → Bool) → ((b : ℕ) → f' b ≡ joined f u g b) → Exact bank linked Start f → Exact bank (WithLink linked u v) Start f' =
-        λ Start f f' is ef. exact_same bank (WithLink linked u v) Start (joined f u g) f' is (exact_more bank linked u v Start f g ef exact_v) in
+        λ Start f f' is ef b. Decides-at (f' b) (joined f u g b) (is b) (exact_more bank linked u v Start f g ef exact_v b) in
         record {
           roles = λ a r. row (Only a) (code_reaches t a) (code_reaches t' a) (e.codes a) (x.roles a r);
           others = λ a b no. e.codes a b ∙ ap₂ (λ p q. p || (q && g b)) (x.others a b no) (x.others a u no);
@@ -42,7 +44,7 @@ module _ (bank : List OfficeModel) (held outsiders : ℕ → ℕ → Type 0) whe
         → (t : ReachTable) → JuniorTable bank held outsiders t → ExactTable bank linked held outsiders t
     table_none lawful none holders outside t x = record {
       roles = λ a r. exact_role bank lawful linked none a r (code_reaches t a) (x.codes a);
-      others = λ a b no. ⊎_elim (λ (h : code_reaches t a b ≡ true). absurd (no (over_role bank lawful a b ((x.codes a b).0 h)))) (λ h. h) (cases_Bool (code_reaches t a b));
+      others = λ a b no. ⊎_elim (λ (h : code_reaches t a b ≡ true). absurd (no ((over_roles bank lawful a b ((x.codes a b).0 h)).0))) (λ h. h) (cases_Bool (code_reaches t a b));
       cards = λ c l. exact_none bank lawful linked none (held c) (holders c) (card_reaches t c) (x.cards c l);
       owners = λ o l. exact_none bank lawful linked none (outsiders o) (outside o) (owner_reaches t o) (x.owners o l);
     }

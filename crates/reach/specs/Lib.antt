@@ -3,5 +3,4 @@ pub mod Tables
 pub mod Steps
 pub mod Exact
 pub mod Laws
-pub mod TableFacts
-pub mod RowFacts
+pub mod Within

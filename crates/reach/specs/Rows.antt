@@ -1,24 +1,25 @@
--- Which codes a row has, and the rows of a list.
-use Rattle.std.specs.Prelude.{◌≡◌, ℕ, zero, suc, Bool, false, cond, ◌&&◌, ◌||◌, List, [], ◌∷◌, vec_items, vec_len, Vec, ◌==◌, nat_lt}
-use Rattle.std.specs.declared.alloc.Global.{Global}
-use Rattle.offices.specs.Members.{row_holds}
+-- Which codes a row has, and rows by their places.
+use Rattle.std.specs.Prelude.{◌≡◌, ℕ, Bool, false, cond, ◌&&◌, ◌||◌, replicate, ◌==◌, nat_lt, slice_index_or}
+use Rattle.offices.specs.Members.{nobody, row_holds}
 use Rattle.banks.specs.Codes.{office_of, role_of}
 use Rattle.reach.specs.declared.row.Row.{Row}
+use Rattle.reach.specs.declared.rows.Rows.{Rows}
 
--- the role of the code b is among those of its office
+-- the code b is below 1,024, and its role is among those of its office
 unfoldable pub has : Row → ℕ → Bool
-has r b = row_holds r.words (office_of b) (role_of b)
+has r b = nat_lt b 1024 && row_holds r.offices (office_of b) (role_of b)
+
+-- the row with no code
+abbrev pub blank : Row
+blank = record { offices = replicate 16 nobody }
 
 -- row a has the code b; a row that is not there has none
-unfoldable pub rows_have : List Row → ℕ → ℕ → Bool
-rows_have [] a b = false
-rows_have (r ∷ rs) zero b = has r b
-rows_have (r ∷ rs) (suc a) b = rows_have rs a b
+unfoldable pub rows_have : {n : ℕ} → Rows n → ℕ → ℕ → Bool
+rows_have t a b = has (slice_index_or t.rows.items a blank) b
 
--- n rows with no code
-pub record Blank (n : ℕ) (v : Vec Row Global) : Type 0 where
-  pub long : vec_len v ≡ n
-  pub none : (a b : ℕ) → rows_have (vec_items v) a b ≡ false
+-- rows with no code
+abbrev pub Blank : {n : ℕ} → Rows n → Type 0
+Blank t = (a b : ℕ) → rows_have t a b ≡ false
 
 -- n rows, of which row k is written, if there is one
 abbrev pub replaced : ℕ → (ℕ → ℕ → Bool) → ℕ → (ℕ → Bool) → ℕ → ℕ → Bool

@@ -1,11 +1,11 @@
 -- The steps that a table has.
-use Rattle.std.specs.Prelude.{◌≡◌, ℕ, Bool, false, ◌&&◌, ◌||◌, vec_items, ◌==◌, nat_lt}
+use Rattle.std.specs.Prelude.{◌≡◌, ℕ, Bool, false, ◌&&◌, ◌||◌, ◌==◌, nat_lt}
 use Rattle.reach.specs.Rows.{rows_have}
 use Rattle.reach.specs.declared.step_table.StepTable.{StepTable}
 
 -- a step leads from the code a to the code b
-unfoldable pub has_step : StepTable → ℕ → ℕ → Bool
-has_step t = rows_have (vec_items t.rows)
+abbrev pub has_step : StepTable → ℕ → ℕ → Bool
+has_step t = rows_have t.rows
 
 abbrev pub NoStep : StepTable → Type 0
 NoStep t = (a b : ℕ) → has_step t a b ≡ false

@@ -7,35 +7,28 @@ pub mod row;
 mod row_list;
 pub mod rows;
 pub mod step_table;
-pub mod step_tables;
 pub mod table;
-pub mod tables;
 
 pub use row::Row;
+pub use rows::Rows;
 pub use step_table::StepTable;
 pub use table::ReachTable;
 
 // With no link, rows and tables that have the juniors of their starts are exact.
-pub fn exactness_begins() -> u8
+pub fn exactness_begins()
     ensures row { RowBegins }
     ensures table { TableBegins }
     ensures steps { StepsBegin }
-{
-    0
-}
+{}
 
 // With one link more, rows, tables and steps are exact again.
-pub fn exactness_grows() -> u8
+pub fn exactness_grows()
     ensures row { RowGrows }
     ensures table { TableGrows }
     ensures steps { StepsGrow }
-{
-    0
-}
+{}
 
 // A search by exact steps finds the best chain of the law.
-pub fn search_is_exact() -> u8
+pub fn search_is_exact()
     ensures { BestBySteps }
-{
-    0
-}
+{}

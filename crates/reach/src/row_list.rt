@@ -1,43 +1,51 @@
-// Rows in a list, by their places.
+// Rows by their places.
 ghost use Rattle.std.specs.Prelude.{◌≡◌, ℕ, length, IfOk};
 ghost use Rattle.reach.specs.Rows.{has, rows_have, Blank, replaced, joined};
 
 use crate::row::Row;
+use crate::rows::Rows;
 use std::alloc::{AllocError, Global};
 
-// So many empty rows.
-pub(crate) fn empty_rows(heap: Global, count: usize) -> Result<Vec<Row>, AllocError>
-    ensures { IfOk result (Blank count) }
-{
-    vec![in heap; Row::empty(); count]
-}
-
-// The row at this place, or an empty one.
-pub(crate) fn row_at(rows: &[Row], at: usize) -> Row
-    ensures { (b : ℕ) → has result b ≡ rows_have rows.now at b }
-{
-    if at >= rows.len() {
-        return Row::empty();
+impl<const N: usize> Rows<N> {
+    // Rows with no code.
+    pub fn new(heap: Global) -> Result<Rows<N>, AllocError>
+        ensures { IfOk result Blank }
+    {
+        let rows = vec![in heap; Row::empty(); N]?;
+        Ok(Rows { rows })
     }
-    rows[at]
-}
 
-// Writes the row at this place; where there is none, nothing.
-pub(crate) fn put(rows: &mut [Row], at: usize, row: Row)
-    ensures { (a b : ℕ) → rows_have rows.new a b ≡ replaced (length rows.old) (rows_have rows.old) at (has row) a b }
-{
-    if at < rows.len() {
-        rows[at] = row;
+    // The row at this place, or an empty one.
+    pub fn row(&self, at: usize) -> Row
+        ensures { (b : ℕ) → has result b ≡ rows_have self.now at b }
+    {
+        self.rows.get(at).copied().unwrap_or(Row::empty())
     }
-}
 
-// Each row that has the code `from` also has what `beyond` has.
-pub(crate) fn extend(rows: &mut [Row], from: u16, beyond: &Row)
-    ensures { (a b : ℕ) → rows_have rows.new a b ≡ joined (rows_have rows.old a) from (has beyond.now) b }
-{
-    for row in rows.iter_mut() {
-        if row.contains(from) {
-            *row = row.join(beyond);
+    // Whether the row at this place has a code.
+    pub fn contains(&self, at: usize, code: u16) -> bool
+        ensures { result ≡ rows_have self.now at code }
+    {
+        self.rows.get(at).is_some_and(|row| row.contains(code))
+    }
+
+    // Writes the row at this place; from N on there is none.
+    pub fn set(&mut self, at: usize, row: Row)
+        ensures { (a b : ℕ) → rows_have self.new a b ≡ replaced N (rows_have self.old) at (has row) a b }
+    {
+        if let Some(place) = self.rows.get_mut(at) {
+            *place = row;
+        }
+    }
+
+    // Each row that has the code `from` also has what `beyond` has.
+    pub(crate) fn extend(&mut self, from: u16, beyond: &Row)
+        ensures { (a b : ℕ) → rows_have self.new a b ≡ joined (rows_have self.old a) from (has beyond.now) b }
+    {
+        for row in self.rows.iter_mut() {
+            if row.contains(from) {
+                *row = row.join(beyond);
+            }
         }
     }
 }

@@ -1,11 +1,9 @@
-use Rattle.std.proofs.Common.{sym, arith}
-use Rattle.reach.specs.Rows.{has}
-use Rattle.reach.specs.RowFacts.{has_past}
+use Rattle.std.proofs.Common.{arith}
+use Rattle.std.proofs.lemmas.Grind.{common_steps}
+use Rattle.reach.proofs.RowFacts.{has_within, has_past}
 use Rattle.reach.proofs.row.Row.contains.Goals as goal
 
-pub returns-then-code-ge1024 : goal.returns-then-code-ge1024
-returns-then-code-ge1024 c = sym (has_past c.args.self.now c.args.code (omega arith))
-
 pub returns : goal.returns
-unfolding has
-returns c = c.contains.ensures
+returns c =
+    let r = c.args.self.now in
+    grind (arith, common_steps, has_within r c.args.code, has_past r c.args.code)

@@ -2,8 +2,9 @@ use Rattle.std.proofs.Common.{◌≡◌, ℕ, ◌<◌, ◌≤◌, ◌||◌, leng
 use Rattle.offices.specs.Members.{row_holds}
 use Rattle.reach.proofs.row.Row.join.Given as goal
 
-abbrev pub invariant-loop-o : goal.invariant-loop-o
-invariant-loop-o l =
-    (length l.words ≡ 16)
-    × ((k : ℕ) → k < l.o → (i : ℕ) → row_holds l.words k i ≡ (row_holds l.initial.words k i || row_holds l.other.words k i))
-    × ((k : ℕ) → l.o ≤ k → (i : ℕ) → row_holds l.words k i ≡ row_holds l.initial.words k i)
+abbrev pub invariant-loop-office : goal.invariant-loop-office
+invariant-loop-office l = record {
+  long : length l.roles-items ≡ 16;
+  done : (k : ℕ) → k < l.office → (i : ℕ) → row_holds l.roles-items k i ≡ (row_holds l.fn.self.offices k i || row_holds l.fn.other.offices k i);
+  rest : (k : ℕ) → l.office ≤ k → (i : ℕ) → row_holds l.roles-items k i ≡ row_holds l.fn.self.offices k i;
+}
