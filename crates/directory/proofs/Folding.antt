@@ -8,7 +8,7 @@ use Rattle.std.proofs.lemmas.Iterator.{YieldsList}
 use Rattle.std.proofs.lemmas.Grind.{common_steps}
 use denote.Param.Members.{Mut}
 use Rattle.offices.specs.Members.{holds}
-use Rattle.offices.proofs.Bit.{and_false}
+use Rattle.std.proofs.Math.Bool.{and-false}
 use Rattle.offices.specs.declared.role_set.RoleSet.{RoleSet}
 use Rattle.directory.specs.SetWords.{among}
 use Rattle.directory.proofs.Membership.{among_push}
@@ -24,4 +24,4 @@ module _ {S A F : Type 0} (steps : S → Option A → S → Type 0) (v : A → �
         (λ i. e.0 i ∙ ap (λ t. t || (eqb i (v x) && ltb (v x) 64)) (j i) ∙ one_more (among i ys) i (v x) ∙ sym (ap (λ t. ltb i 64 && t) (among_push i ys (v x)))),
         e.1,
       ))
-      s all a r yields.runs (λ i. none i ∙ sym (and_false (ltb i 64))) ran
+      s all a r yields.runs (λ i. none i ∙ sym (and-false (ltb i 64))) ran

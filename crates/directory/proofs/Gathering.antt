@@ -2,7 +2,7 @@
 use Rattle.std.proofs.Common.{filter, List, [], ◌∷◌, zero, suc, ◌≡◌, ℕ, ◌+◌, ◌<◌, ◌≤◌, Bool, true, false, ◌&&◌, ◌||◌, eqb, ltb, sym, arith}
 use Rattle.std.proofs.lemmas.Grind.{common_steps}
 use Rattle.std.specs.List.{range_with_len}
-use Rattle.offices.proofs.Bit.{and_false}
+use Rattle.std.proofs.Math.Bool.{and-false}
 use Rattle.directory.specs.SetWords.{among}
 
 -- what is below j + 1 with the property is below j, or j itself where it has it
@@ -21,7 +21,7 @@ pub gathered_all : (f : ℕ → Bool) (n : ℕ) → ((i : ℕ) → f i ≡ true 
 gathered_all f n small i = grind (arith, common_steps, small i)
 
 among_filter : (f : ℕ → Bool) (i : ℕ) (xs : List ℕ) → among i (filter f xs) ≡ (f i && among i xs)
-among_filter f i [] = sym (and_false (f i))
+among_filter f i [] = sym (and-false (f i))
 among_filter f i (x ∷ xs) = grind (arith, common_steps, among_filter f i xs)
 
 among_range : (i a n : ℕ) → a ≤ i → i < a + n → among i (range_with_len a n) ≡ true
