@@ -64,11 +64,3 @@ bit_outside v w i hv hw =
     (λ (l : i < 64). ap (λ x. bit v i && x) (turned w i hw l))
     (λ (l : 64 ≤ i). let none = bit_past v 64 i hv l in ap (λ x. x && bit (bit_not w64 w) i) none ∙ sym (ap (λ x. x && not (bit w i)) none))
     (cases_lt i 64)
-
-pub or_false : (x : Bool) → (x || false) ≡ x
-or_false true = refl
-or_false false = refl
-
-pub and_true : (x : Bool) → (x && true) ≡ x
-and_true true = refl
-and_true false = refl
