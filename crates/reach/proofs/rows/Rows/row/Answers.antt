@@ -1,9 +1,8 @@
 use Rattle.std.proofs.Common.{arith}
-use Rattle.std.proofs.lemmas.Grind.{common_steps}
 use Rattle.reach.specs.Rows.{rows_have}
 use Rattle.reach.specs.Within.{rows_past}
 use Rattle.reach.proofs.rows.Rows.row.Goals as goal
 
 pub returns : goal.returns
 unfolding rows_have
-returns g c b = grind (arith, common_steps, c.empty.ensures b, rows_past c.args.self.now c.args.at b)
+returns g c b = grind (arith, c.empty.ensures b, rows_past c.args.self.now c.args.at b)
