@@ -21,7 +21,7 @@ impl<B: Bank, O: Office> Join<B, O> {
     }
 
     // Whether the last office has this number. For each other number the bank before it answers: also for one that no
-    // office has.
+    // office has. (One function for the six questions would take both answers as closures, and be longer than an `if`.)
     fn is_last(&self, office: u8) -> bool
         ensures { office_at (with_office (B.offices self.now.bank) (O.model self.now.last)) office ≡ (if result then O.model self.now.last else office_at (B.offices self.now.bank) office) }
     {

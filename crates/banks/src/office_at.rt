@@ -5,7 +5,7 @@ use crate::bank::Bank;
 use offices::Office;
 
 // One office of a bank, as an office of its own: the one with this number. Where there is none it has no roles and
-// no sets.
+// no sets. (Each answer is the bank's own to the same question, so that there is no shorter form.)
 #[derive(Drop)]
 pub struct OfficeAt<'a, B: Bank> {
     bank: &'a B,

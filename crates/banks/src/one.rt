@@ -19,7 +19,7 @@ impl<O: Office> One<O> {
         One { office }
     }
 
-    // The office with this number, where there is one.
+    // The office with this number, where there is one. (Each question hands its own numbers on: there is no shorter form.)
     fn at(&self, office: u8) -> Option<&O>
         ensures { MatchOption result (office_at (O.model self.now.office ∷ []) office ≡ no_office) (λ o. office_at (O.model self.now.office ∷ []) office ≡ O.model o.now) }
     {

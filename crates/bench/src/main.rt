@@ -66,6 +66,7 @@ fn three_more<B: Bank>(bank: B) -> ThreeMore<B> {
     Join::new(Join::new(Join::new(bank, full()), full()), full())
 }
 
+// The runtime and the bank go on to one function more each: a struct for both would be made anew at each step.
 // A long bank is joined a few offices at a time, so that each step is proved for whatever bank comes before.
 // One function that called itself at a longer bank would need a type for every length, without end.
 fn with_three_more<B: Bank + Drop>(rt: &HostRuntime, bank: B) -> io::Result<()> {

@@ -5,7 +5,8 @@ ghost use Rattle.offices.specs.Order.{Order, itself_alone};
 
 use answers::Refusal;
 
-// Seniority among 64 roles as one kind of office keeps it: what makes the kinds differ.
+// Seniority among 64 roles as one kind of office keeps it: what makes the kinds differ. Senior and junior are two
+// parameters, as in an office's own `is_over`.
 pub trait Seniority {
     // whether the first role is over the second
     ghost over: { Self → ℕ → ℕ → Bool };

@@ -34,7 +34,7 @@ impl OfficeBase {
         Ok(())
     }
 
-    // Adds an exclusive set.
+    // Adds an exclusive set. (Members and bound stay two parameters, as callers have them: a struct would be taken apart at once.)
     pub fn exclude(&mut self, members: &[u8], bound: u8) -> Result<(), Refusal>
         ensures answer { result ≡ set_answer (base_roles self.old) (base_sets self.old) members.now bound }
         ensures after { (over : ℕ → ℕ → Bool) → office_with self.new over ≡ after_set result (office_with self.old over) members.now bound }

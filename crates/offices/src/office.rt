@@ -3,7 +3,8 @@ ghost use Rattle.offices.specs.Model.{OfficeModel, Lawful, bound_at, member_at};
 
 // An office: roles from 0, which of them are over which, which are shared with other offices, and exclusive
 // sets of roles. It is known by these six answers alone; a question about a role, a set or a place that it
-// lacks gets no, bound 0 or nothing. (docs/RULES.md has the 0: each real bound is 2 or more.)
+// lacks gets no, bound 0 or nothing. (docs/RULES.md has the 0: each real bound is 2 or more.) A question's numbers stay
+// parameters of their own: no two questions ask by the same ones, so that a struct for them would serve one question each.
 pub trait Office {
     ghost model: { Self → OfficeModel };
 

@@ -54,7 +54,7 @@ fn walk<G: Graph>(graph: &G, starts: &[bool], home: &[Option<u16>], steps: u16, 
 }
 
 // Writes the best chain, which fills the strip. Only nodes nearer than the target are asked for
-// their steps.
+// their steps. (Graph, starts and target stay three parameters: in a struct, each clause would read them by a field more.)
 fn trace<G: Graph>(
     graph: &G,
     starts: &[bool],

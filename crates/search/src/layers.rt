@@ -59,6 +59,7 @@ pub fn reach<G: Graph>(
     ensures { Arriving (G.size graph.now) (G.leads graph.now) starts.now target near.new result }
 {
     seed(starts, near);
+    // A `while`: a `for` over the layers would need an end that no search comes to.
     let mut k: u16 = 0;
     let mut looked: usize = 0;
     while near[target].is_none() {

@@ -1,7 +1,8 @@
 ghost use Rattle.std.specs.Prelude.{◌≡◌, length};
 ghost use Rattle.tree_office.specs.Climb.{Grows, senior_of};
 
-// The direct senior of each of 64 roles, and no circle.
+// The direct senior of each of 64 roles, and no circle. (By number, with no boxes: everyone knows a role by its number, and
+// drafting has no heap.)
 #[derive(Drop)]
 pub struct Tree {
     pub(crate) seniors: [Option<u8>; 64],
