@@ -12,9 +12,7 @@ pub(crate) fn marked_base<O: Office>(office: &O) -> OfficeBase
     let mut base = OfficeBase::new(roles);
     for role in 0..roles {
         if office.is_shared(role) {
-            let Ok(()) = base.share(role) else {
-                unreachable!();
-            };
+            base.share(role).unwrap();
         }
     }
     base

@@ -28,9 +28,7 @@ pub(crate) fn base_of<O: Office>(office: &O) -> OfficeBase
     let mut base = marked_base(office);
     for set in 0..office.set_count() {
         let members = listed_members(office, set);
-        let Ok(()) = base.exclude(&members, office.set_bound(set)) else {
-            unreachable!();
-        };
+        base.exclude(&members, office.set_bound(set)).unwrap();
     }
     base
 }

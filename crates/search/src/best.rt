@@ -24,17 +24,14 @@ fn next_node<G: Graph>(
     requires some { SomeBelow (length home.now) (Passing (goes_on (G.leads graph.now) (marked starts.now) before) home.now k) }
     ensures { Least (length home.now) (Passing (goes_on (G.leads graph.now) (marked starts.now) before) home.now k) result }
 {
-    let Some(v) = home.iter().enumerate().position(|(v, label)| {
+    let found = home.iter().enumerate().position(|(v, label)| {
         *label == Some(k)
             && match before {
                 None => starts[v],
                 Some(u) => graph.step(u, v),
             }
-    })
-    else {
-        unreachable()
-    };
-    v
+    });
+    found.unwrap()
 }
 
 // Writes the walk: the smallest start, and at each later place the smallest node that is one step nearer.

@@ -58,50 +58,52 @@ impl<'a> Asker<'a> {
         self.member(2, 0)
     }
 
-    pub fn by_which_chain(&self) -> io::Result<()> {
-        chain(self.rt, self.office, 0, 4)?;
-        chain(self.rt, self.office, 2, 2)?;
-        chain(self.rt, self.office, 1, 3)?;
-        chain(self.rt, self.office, 0, 77)
-    }
-}
-
-fn chain(rt: &HostRuntime, office: &ListOffice, senior: u8, junior: u8) -> io::Result<()> {
-    let mut starts = [false; 64];
-    if senior < 64 {
-        starts[senior as usize] = true;
-    }
-    let mut near = [None; 64];
-    let mut home = [None; 64];
-    let mut strip = [0; 64];
-    let first = role_name(u16::from(senior));
-    let second = role_name(u16::from(junior));
-    let Ok(Outcome { len, looked }) = best_chain(
-        office,
-        &starts,
-        junior as usize,
-        &mut near,
-        &mut home,
-        &mut strip,
-    ) else {
-        return println!(rt; "  from {first} to {second}: there is no such role");
-    };
-    match len {
-        Some(len) => {
-            print!(rt;
-                "  from {first} to {second}: a chain of length {len}, after a look at {looked}:"
-            )?;
-            written(rt, &strip, len)
+    fn chain(&self, senior: u8, junior: u8) -> io::Result<()> {
+        let mut starts = [false; 64];
+        if senior < 64 {
+            starts[senior as usize] = true;
         }
-        None => println!(rt; "  from {first} to {second}: no chain, after a look at {looked}"),
+        let mut near = [None; 64];
+        let mut home = [None; 64];
+        let mut strip = [0; 64];
+        let first = role_name(u16::from(senior));
+        let second = role_name(u16::from(junior));
+        let Ok(Outcome { len, looked }) = best_chain(
+            self.office,
+            &starts,
+            junior as usize,
+            &mut near,
+            &mut home,
+            &mut strip,
+        ) else {
+            return println!(self.rt; "  from {first} to {second}: there is no such role");
+        };
+        match len {
+            Some(len) => {
+                print!(self.rt;
+                    "  from {first} to {second}: a chain of length {len}, after a look at {looked}:"
+                )?;
+                self.written(&strip, len)
+            }
+            None => println!(self.rt;
+                "  from {first} to {second}: no chain, after a look at {looked}"
+            ),
+        }
     }
-}
 
-// The roles in the first `len` places of a strip.
-fn written(rt: &HostRuntime, strip: &[u16], len: usize) -> io::Result<()> {
-    for node in strip.iter().take(len) {
-        let name = role_name(*node);
-        print!(rt; " {name}")?;
+    // The roles in the first `len` places of a strip.
+    fn written(&self, strip: &[u16], len: usize) -> io::Result<()> {
+        for node in strip.iter().take(len) {
+            let name = role_name(*node);
+            print!(self.rt; " {name}")?;
+        }
+        println!(self.rt; "")
     }
-    println!(rt; "")
+
+    pub fn by_which_chain(&self) -> io::Result<()> {
+        self.chain(0, 4)?;
+        self.chain(2, 2)?;
+        self.chain(1, 3)?;
+        self.chain(0, 77)
+    }
 }

@@ -7,7 +7,7 @@ use Rattle.directory.proofs.Gathering.{gathered_none}
 use Rattle.directory.proofs.Listing.{same_model}
 use Rattle.directory.proofs.Marking.{first_marks, marked_more, marked_same}
 use Rattle.directory.proofs.marks.marked_base.Goals as goal
-use Rattle.directory.proofs.marks.marked_base.Goals.{then-is_shared+in-Ok, else-is_shared}
+use Rattle.directory.proofs.marks.marked_base.Goals.{then-is_shared, else-is_shared}
 
 pub loop-role-init : goal.loop-role-init
 loop-role-init g c =
@@ -23,6 +23,6 @@ loop-role-preserved g c =
     let j = c.loop-role.role in
     let before = office_with c.loop-role.base m.over in
     elim c.if-is_shared.branch [
-      | then-is_shared+in-Ok w ↦ ap (λ (b : OfficeBase). office_with b m.over) w.base-is ∙ w.in-Ok.ensures.after m.over ∙ marked_more m before j c.loop-role.invariant (sym w.if-is_shared.ensures)
+      | then-is_shared w ↦ ap (λ (b : OfficeBase). office_with b m.over) w.base-is ∙ (rw w.unwrap.ensures at w.share.ensures.after m.over) ∙ marked_more m before j c.loop-role.invariant (sym w.if-is_shared.ensures)
       | else-is_shared w ↦ ap (λ (b : OfficeBase). office_with b m.over) w.base-is ∙ marked_same m before j c.loop-role.invariant (sym w.if-is_shared.ensures)
     ]
