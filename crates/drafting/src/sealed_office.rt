@@ -45,6 +45,7 @@ impl<S: Seniority> Office for Sealed<S> {
 }
 
 // Where seniority is kept as steps, the office is a graph: for whoever asks by which chain one role is over another.
+// (`step` tests its numbers as `is_over` does: of another type and trait, so that one function for both would be longer.)
 impl<S: Seniority + Graph> Graph for Sealed<S> {
     ghost size = { λ x. base_roles x.base };
 

@@ -38,7 +38,8 @@ impl<const N: usize> Rows<N> {
         }
     }
 
-    // Each row that has the code `from` also has what `beyond` has.
+    // Each row that has the code `from` also has what `beyond` has. (A matrix office does so to sets of roles: a trait for
+    // both, with its laws and two impls, would be longer than the two loops.)
     pub(crate) fn extend(&mut self, from: u16, beyond: &Row)
         ensures { (a b : ℕ) → rows_have self.new a b ≡ joined (rows_have self.old a) from (has beyond.now) b }
     {

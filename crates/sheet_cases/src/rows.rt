@@ -14,7 +14,7 @@ fn four_numbers(rt: HostRuntime) -> Result<(), Fail> {
 }
 
 // Question marks, refused by this number, stay as they are.
-fn refused(rt: &impl Abort, numbers: [u32; 4], line: &mut [u8], number: u8) -> Result<(), Fail> {
+fn refuses(rt: &impl Abort, numbers: [u32; 4], line: &mut [u8], number: u8) -> Result<(), Fail> {
     match columns(numbers, line) {
         Ok(()) => Err(Fail::new("it is written")),
         Err(refusal) => {
@@ -26,11 +26,11 @@ fn refused(rt: &impl Abort, numbers: [u32; 4], line: &mut [u8], number: u8) -> R
 }
 
 #[test]
-fn too_large(rt: HostRuntime) -> Result<(), Fail> {
-    refused(&rt, [0, 0, 0, 1_000_000], &mut [b'?'; 24], 33)
+fn refused(rt: HostRuntime) -> Result<(), Fail> {
+    refuses(&rt, [0, 0, 0, 1_000_000], &mut [b'?'; 24], 33)
 }
 
 #[test]
 fn wrong_length(rt: HostRuntime) -> Result<(), Fail> {
-    refused(&rt, [0, 0, 0, 1_000_000], &mut [b'?'; 25], 31)
+    refuses(&rt, [0, 0, 0, 1_000_000], &mut [b'?'; 25], 31)
 }
