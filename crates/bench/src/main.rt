@@ -30,7 +30,8 @@ fn juniors<B: Bank>(bank: &B, office: u8, senior: u8) -> usize {
         .count()
 }
 
-// Adds up by `saturating_add`, which owes no bound, as `sum` would.
+// Adds up by `saturating_add`, which owes no bound, as `sum` would. (So does `members`, over sets: a function for both would
+// take the range and a closure besides.)
 fn seniority<B: Bank>(bank: &B, office: u8) -> usize {
     (0..64u8)
         .map(|senior| juniors(bank, office, senior))
