@@ -3,8 +3,9 @@ ghost use Rattle.banks.specs.Banks.{office_at};
 ghost use Rattle.offices.specs.Model.{OfficeModel, Lawful, bound_at, member_at};
 
 // One sealed office, or a bank and one office more. Offices count from 0 in joining order, and the first 16 are
-// heard. A question about an office that is not there gets no roles, no, bound 0 or nothing.
-// Its numbers stay parameters, and a bound that is not there is 0, as with an `Office`. It hands no office out: they are of many types, and the check takes no `dyn` that a function makes and gives away.
+// heard. A question about an office that is not there gets no roles, no, bound 0 or nothing. Its numbers stay parameters,
+// and a bound that is not there is 0, as with an `Office`. It hands no office out: they are of many types, and the check
+// takes no `dyn` that a function makes and gives away.
 pub trait Bank {
     ghost offices: { Self → List OfficeModel };
 
