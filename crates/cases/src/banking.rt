@@ -50,6 +50,7 @@ fn three_more<B: Bank>(bank: B, roles: [u8; 3]) -> ThreeMore<B> {
     Join::new(Join::new(bank, Columns::new(second)), Columns::new(third))
 }
 
+// The handle and the bank go on to one function more each: a struct for both would be made anew at each step.
 // A long bank is joined a few offices at a time, so that each step is proved for whatever bank comes before.
 // One function that called itself at a longer bank would need a type for every length, without end.
 fn from_thirteen<B: Bank + Drop>(rt: &impl Abort, bank: B) {

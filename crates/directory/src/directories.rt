@@ -32,7 +32,8 @@ impl Directory {
         self.entries.get(usize::from(office))
     }
 
-    // The entry of the office that a role of this code has, where there is one, and the role's number there.
+    // The entry of the office that a role of this code has, where there is one, and the role's number there. (The bank's own
+    // `role_at` also asks whether there is such a role.)
     fn entry_of(&self, code: u32) -> Option<(&OfficeEntry, u8)>
         ensures { MatchOption result (office_at (heard self.now) (office_of code) ≡ no_office) (λ e. (office_at (heard self.now) (office_of code) ≡ entry_model e.0.now) × (e.1 ≡ role_of code)) }
     {

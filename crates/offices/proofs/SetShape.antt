@@ -1,11 +1,10 @@
 -- A set that passes the tests has the shape of an exclusive set.
-use Rattle.std.proofs.Common.{◌≡◌, ℕ, zero, suc, ◌<◌, ◌≤◌, true, false, not, eqb, ltb, leb, List, [], ◌∷◌, length, get_or, Ok, Err, sym, refl, ap, arith}
+use Rattle.std.proofs.Common.{◌≡◌, ℕ, zero, suc, ◌<◌, true, not, eqb, ltb, leb, List, [], ◌∷◌, length, get_or, sym, refl, ap, arith}
 use Rattle.std.specs.List.{AllByRecursion}
-use Rattle.std.proofs.lemmas.Bool.{and_parts, ltb-true, leb-true, eq-eqb, both_ways, not-true, lt-leb}
+use Rattle.std.proofs.lemmas.Bool.{and_parts, ltb-true, leb-true, eq-eqb, both_ways, not-true}
 use Rattle.offices.specs.Drafting.{missing, all_differ, all_below}
-use Rattle.offices.specs.Model.{SetModel, Shaped}
-use Rattle.offices.specs.Drafting.{good_set, set_answer}
-use Rattle.answers.specs.declared.Refusal.TheVariants.{NoSuchRole, BadSet}
+use Rattle.offices.specs.Model.{Shaped}
+use Rattle.offices.specs.Drafting.{good_set}
 
 exist : (n : ℕ) (ms : List ℕ) → all_below n ms ≡ true → AllByRecursion (λ r. r < n) ms
 exist n [] h = tt
@@ -37,19 +36,3 @@ shaped_good n ms t h b =
       exist = exist n ms b;
       differ = differ ms s.1;
     }
-
-pub good_few : (ms : List ℕ) (t : ℕ) → good_set ms t ≡ true → length ms ≤ 8
-good_few ms t h = leb-true (length ms) 8 (and_parts (leb (length ms) 8) _ (and_parts (leb 2 (length ms)) _ h).1).0
-
-module _ (n : ℕ) (sets : List SetModel) (ms : List ℕ) (t : ℕ) (room : length sets < 8) where
-  open_table : leb 8 (length sets) ≡ false
-  open_table = lt-leb 8 (length sets) room
-
-  pub answer_bad : good_set ms t ≡ false → Err BadSet ≡ set_answer n sets ms t
-  answer_bad g = sym (rw (open_table, g))
-
-  pub answer_role : good_set ms t ≡ true → all_below n ms ≡ false → Err NoSuchRole ≡ set_answer n sets ms t
-  answer_role g b = sym (rw (open_table, g, b))
-
-  pub answer_ok : good_set ms t ≡ true → all_below n ms ≡ true → Ok tt ≡ set_answer n sets ms t
-  answer_ok g b = sym (rw (open_table, g, b))

@@ -14,11 +14,8 @@ fn exclusive_set(members: &[u8], bound: u8) -> ExclusiveSet
     requires { length members.now ≤ 8 }
     ensures { set_model result ≡ record { members = members.entry.now; bound = bound } }
 {
-    // At most 8 always fit.
-    let mut kept = ArrayVec::new();
-    let _fits = kept.try_extend_from_slice(members);
     ExclusiveSet {
-        members: kept,
+        members: ArrayVec::try_from(members).unwrap(),
         bound,
     }
 }

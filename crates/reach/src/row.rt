@@ -11,7 +11,7 @@ pub struct Row {
     offices: [RoleSet; 16],
 }
 
-// The office of a code and its role there.
+// The office of a code and its role there. (A bank and a directory split codes of 32 bits, which few offices have.)
 fn place(code: u16) -> (usize, u8)
     ensures office { result.0 ≡ office_of code }
     ensures role { result.1 ≡ role_of code }
@@ -69,7 +69,7 @@ impl Row {
             .unwrap_or(RoleSet::empty())
     }
 
-    // What either row has.
+    // What either row has. (No `zip`: after one a proof knows nothing of what `iter_mut` wrote.)
     pub fn join(mut self, other: &Row) -> Row
         ensures { (b : ℕ) → has result b ≡ (has self b || has other.now b) }
     {

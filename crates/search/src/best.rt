@@ -12,7 +12,8 @@ use crate::layers::{homing, reach};
 use crate::steps::NearerSteps;
 use crate::{Outcome, Unfit};
 
-// The smallest node at distance k that is a start, or, after a node u, to which a step leads from u.
+// The smallest node at distance k that is a start, or, after a node u, to which a step leads from u. (A closure in place
+// of `before` would stand in the clauses by what it returns for each node, where `goes_on` now names it.)
 fn next_node<G: Graph>(
     graph: &G,
     starts: &[bool],
@@ -51,7 +52,8 @@ fn walk<G: Graph>(graph: &G, starts: &[bool], home: &[Option<u16>], steps: u16, 
 }
 
 // Writes the best chain, which fills the strip. Only nodes nearer than the target are asked for
-// their steps. (Graph, starts and target stay three parameters: in a struct, each clause would read them by a field more.)
+// their steps. (Graph, starts and target stay three parameters, and that `starts` has a mark for each node a fact of each
+// function: in a struct, each clause would read all of them by a field more.)
 fn trace<G: Graph>(
     graph: &G,
     starts: &[bool],
@@ -77,7 +79,8 @@ fn trace<G: Graph>(
 }
 
 // Writes the best chain from the starts to the target into the first places of the strip. The
-// slices `near` and `home` are lent to work in, and a place for each node is enough in each.
+// slices `near` and `home` are lent to work in, and a place for each node is enough in each. (They are two lists, since
+// one counts from the starts and the other to the target.)
 pub fn best_chain<G: Graph>(
     graph: &G,
     starts: &[bool],

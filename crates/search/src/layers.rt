@@ -37,7 +37,7 @@ fn layer<G: Graph>(graph: &G, k: u16, d: &mut [Option<u16>]) -> usize
     count
 }
 
-// The distances to begin with: 0 at the starts.
+// The distances to begin with: 0 at the starts. (No `zip`: after one a proof knows nothing of what `iter_mut` wrote.)
 fn seed(starts: &[bool], d: &mut [Option<u16>])
     requires { length d.old ≤ length starts.now }
     ensures { Begun (marked starts.now) (length d.old) d.new }

@@ -1,6 +1,6 @@
 // Four numbers in columns.
+use crate::shared::unwritten;
 use sheets::columns;
-use std::process::Abort;
 use std::test::Fail;
 
 #[test]
@@ -13,24 +13,16 @@ fn four_numbers(rt: HostRuntime) -> Result<(), Fail> {
     Ok(())
 }
 
-// Question marks, refused by this number, stay as they are.
-fn refuses(rt: &impl Abort, numbers: [u32; 4], line: &mut [u8], number: u8) -> Result<(), Fail> {
-    match columns(numbers, line) {
-        Ok(()) => Err(Fail::new("it is written")),
-        Err(refusal) => {
-            assert_eq!(rt; refusal.number(), number);
-            assert!(rt; line.iter().all(|byte| *byte == b'?'));
-            Ok(())
-        }
-    }
-}
-
 #[test]
 fn refused(rt: HostRuntime) -> Result<(), Fail> {
-    refuses(&rt, [0, 0, 0, 1_000_000], &mut [b'?'; 24], 33)
+    let mut line = [b'?'; 24];
+    let answer = columns([0, 0, 0, 1_000_000], &mut line);
+    unwritten(&rt, answer, &line, 33)
 }
 
 #[test]
 fn wrong_length(rt: HostRuntime) -> Result<(), Fail> {
-    refuses(&rt, [0, 0, 0, 1_000_000], &mut [b'?'; 25], 31)
+    let mut line = [b'?'; 25];
+    let answer = columns([0, 0, 0, 1_000_000], &mut line);
+    unwritten(&rt, answer, &line, 31)
 }

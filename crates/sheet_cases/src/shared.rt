@@ -13,6 +13,23 @@ pub fn reads(rt: &impl Abort, line: &[u8], token: Token<'_>) -> Result<(), Fail>
     Ok(())
 }
 
+// It is refused by this number, and the line, all question marks, is as it was.
+pub fn unwritten(
+    rt: &impl Abort,
+    answer: Result<(), Refusal>,
+    line: &[u8],
+    number: u8,
+) -> Result<(), Fail> {
+    match answer {
+        Ok(()) => Err(Fail::new("it is written")),
+        Err(refusal) => {
+            assert_eq!(rt; refusal.number(), number);
+            assert!(rt; line.iter().all(|byte| *byte == b'?'));
+            Ok(())
+        }
+    }
+}
+
 // The line is refused by this number, with this column.
 pub fn faulty(rt: &impl Abort, line: &[u8], number: u8, column: u8) -> Result<(), Fail> {
     match read_line(line) {

@@ -5,13 +5,11 @@ use std::test::Fail;
 
 // The next line is this one.
 fn given(rt: &impl Abort, lines: &mut Lines<'_>, line: &[u8]) -> Result<(), Fail> {
-    match lines.next() {
-        Some(next) => {
-            assert_eq!(rt; next, line);
-            Ok(())
-        },
-        None => Err(Fail::new("no line")),
-    }
+    let Some(next) = lines.next() else {
+        return Err(Fail::new("no line"));
+    };
+    assert_eq!(rt; next, line);
+    Ok(())
 }
 
 // No line is left, however often it is asked for.

@@ -1,18 +1,13 @@
 // Tokens that are refused, with nothing written.
+use crate::shared::unwritten;
 use sheets::{Token, write_line};
 use std::process::Abort;
 use std::test::Fail;
 
-// Question marks, refused by this number, stay as they are.
+// The token is refused by this number, with nothing written.
 fn refused(rt: &impl Abort, token: Token<'_>, line: &mut [u8], number: u8) -> Result<(), Fail> {
-    match write_line(token, line) {
-        Ok(()) => Err(Fail::new("it is written")),
-        Err(refusal) => {
-            assert_eq!(rt; refusal.number(), number);
-            assert!(rt; line.iter().all(|byte| *byte == b'?'));
-            Ok(())
-        }
-    }
+    let answer = write_line(token, line);
+    unwritten(rt, answer, line, number)
 }
 
 #[test]

@@ -3,7 +3,7 @@ ghost use Rattle.std.specs.Prelude.{◌≡◌};
 ghost use Rattle.std.specs.Iterator.{item_count};
 ghost use Rattle.sheets.specs.Lines.{lines_of, lines_left, Goes};
 
-// A sheet, and the place where its next line begins: a rule of the project has a reader over the sheet's own bytes.
+// A sheet, and the place where its next line begins: a form that docs/DECISIONS.md fixes.
 #[derive(Drop)]
 pub struct Lines<'a> {
     sheet: &'a [u8],

@@ -1,4 +1,5 @@
-// Numbers in six columns.
+// Numbers in six columns. (Not by `parse` and `{:>6}`: `parse` takes a sign and leading zeros too, and both say nothing of
+// the digits that a clause could name.)
 ghost use Rattle.std.specs.Prelude.{◌≡◌, ◌<◌, MatchResult};
 ghost use Rattle.answers.specs.declared.Refusal.TheVariants.{BadField};
 ghost use Rattle.sheets.specs.Columns.{column_byte, six, counts, Holds, ReadsNumber};

@@ -12,11 +12,7 @@ use sheet_words::{PairWord, Word, read_word};
 fn read_blank(field: &[u8]) -> Option<()>
     ensures { MatchOption result (field.now ≢ blank) (λ _. field.now ≡ blank) }
 {
-    if field == b"      ".as_slice() {
-        Some(())
-    } else {
-        None
-    }
+    (field == b"      ".as_slice()).then_some(())
 }
 
 // Twelve bytes from the space to the tilde.

@@ -67,7 +67,7 @@ fn line_of(token: Token<'_>) -> Result<[u8; 20], Refusal>
 }
 
 // Fills the twenty bytes of `line` with the token's line, or refuses and leaves them as they are. The bytes are the
-// caller's, here and in `columns`: a rule of the project, which has no heap.
+// caller's, here and in `columns`, as docs/RULES.md has it.
 pub fn write_line(token: Token<'_>, line: &mut [u8]) -> Result<(), Refusal>
     ensures { Writes token.entry line.old result line.new }
 {
