@@ -2,7 +2,7 @@
 // of the answers were yes, so that no answer can be left out.
 #![tactic(auto)]
 
-use banks::{Bank, Join, One};
+use banks::{Bank, Join, OfficeAt, One};
 use list_office::{ListDraft, ListOffice};
 use offices::Office;
 use std::{array, io};
@@ -24,38 +24,38 @@ fn full() -> ListOffice {
 }
 
 // How many of the 64 questions `is this role over each` are answered yes.
-fn juniors<B: Bank>(bank: &B, office: u8, senior: u8) -> usize {
+fn juniors<O: Office>(office: &O, senior: u8) -> usize {
     (0..64u8)
-        .filter(|junior| bank.is_over(office, senior, *junior))
+        .filter(|junior| office.is_over(senior, *junior))
         .count()
 }
 
 // Adds up by `saturating_add`, which owes no bound, as `sum` would. (So does `members`, over sets: a function for both would
 // take the range and a closure besides.)
-fn seniority<B: Bank>(bank: &B, office: u8) -> usize {
+fn seniority<O: Office>(office: &O) -> usize {
     (0..64u8)
-        .map(|senior| juniors(bank, office, senior))
+        .map(|senior| juniors(office, senior))
         .fold(0, usize::saturating_add)
 }
 
-fn places<B: Bank>(bank: &B, office: u8, set: u8) -> usize {
+fn places<O: Office>(office: &O, set: u8) -> usize {
     (0..8u8)
-        .filter(|place| bank.set_member(office, set, *place).is_some())
+        .filter(|place| office.set_member(set, *place).is_some())
         .count()
 }
 
-fn members<B: Bank>(bank: &B, office: u8) -> usize {
+fn members<O: Office>(office: &O) -> usize {
     (0..8u8)
-        .map(|set| places(bank, office, set))
+        .map(|set| places(office, set))
         .fold(0, usize::saturating_add)
 }
 
 fn asked<B: Bank>(rt: &HostRuntime, bank: &B) -> io::Result<()> {
     let over = (0..16u8)
-        .map(|office| seniority(bank, office))
+        .map(|office| seniority(&OfficeAt::new(bank, office)))
         .fold(0, usize::saturating_add);
     let stand = (0..16u8)
-        .map(|office| members(bank, office))
+        .map(|office| members(&OfficeAt::new(bank, office)))
         .fold(0, usize::saturating_add);
     println!(rt; "of 65536 questions on seniority, {over} were answered yes")?;
     println!(rt; "of 1024 questions on places of sets, {stand} found a role")

@@ -5,6 +5,7 @@ use std::test::Fail;
 
 // The next line is this one.
 fn given(rt: &impl Abort, lines: &mut Lines<'_>, line: &[u8]) -> Result<(), Fail> {
+    // no `ok_or`: it drops what it is given, and a `Fail` can't be dropped
     let Some(next) = lines.next() else {
         return Err(Fail::new("no line"));
     };
