@@ -41,6 +41,8 @@ impl Directory {
         Some((entry, (code % 64) as u8))
     }
 
+    // Each answer hands its question to an entry: two that look alike differ in the question. Office, set and place stay
+    // numbers of their own, as a bank is asked by them.
     pub fn office_count(&self) -> u8
         ensures count { result ≡ length (heard self.now) }
         ensures lawful { LawfulBank (heard self.now) }

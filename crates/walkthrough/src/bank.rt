@@ -30,6 +30,7 @@ impl<'a, B: Bank> Asker<'a, B> {
         Ok(())
     }
 
+    // (Office, senior and junior stay three numbers, as the bank's own `is_over` takes them.)
     fn over(&self, office: u8, senior: u8, junior: u8) -> io::Result<()> {
         let answer = yes_or_no(self.bank.is_over(office, senior, junior));
         println!(self.rt; "  in office {office}, is {senior} over {junior}? {answer}")

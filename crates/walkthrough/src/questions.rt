@@ -12,6 +12,7 @@ pub struct Asker<'a> {
 }
 
 impl<'a> Asker<'a> {
+    // (Senior and junior stay two numbers, as the office's own `is_over` takes them.)
     fn over(&self, senior: u8, junior: u8) -> io::Result<()> {
         let first = role_name(u16::from(senior));
         let second = role_name(u16::from(junior));
