@@ -1,10 +1,13 @@
 -- The sets that fit keep their shape.
-use Rattle.std.proofs.Common.{◌≡◌, ℕ, ◌<◌, ◌≤◌, cond, List, [], take, ◌⊎◌, sym, ap, ◌∙◌, ⊎_elim, arith}
+use Rattle.std.proofs.Common.{◌≡◌, ℕ, ◌<◌, ◌≤◌, cond, List, [], map, min, length, take, ◌⊎◌, sym, ap, ◌∙◌, ⊎_elim, arith}
 use Rattle.std.specs.List.{AllByRecursion}
 use Rattle.std.proofs.lemmas.Bool.{cases_lt, le-leb, lt-leb}
+use Rattle.std.proofs.lemmas.List.{take-map, take-take, take_all}
 use Rattle.std.proofs.ByRecursion.{All-take, All-weaker}
 use Rattle.offices.specs.Model.{SetModel, Shaped}
-use Rattle.offices.specs.Sets.{fitted}
+use Rattle.offices.specs.Sets.{set_model, sets_of, fitted}
+use Rattle.offices.specs.declared.exclusive.ExclusiveSet.{ExclusiveSet}
+use Rattle.offices.proofs.SetRows.{length_sets}
 
 module _ (n r room : ℕ) (own : List SetModel) where
   pub fits : n ≤ r → fitted n r room own ≡ take room own
@@ -37,3 +40,13 @@ cut n r room k own b =
     (λ (h : (r < n) × (k ≡ 0)). ap (λ m. take m own) h.1 ∙ sym (fits_not n r room own h.0))
     (λ (h : (n ≤ r) × (k ≡ room)). ap (λ m. take m own) h.1 ∙ sym (fits n r room own h.0))
     b
+
+-- fewer of a table's sets
+pub sets_front : (c r : ℕ) (xs : List ExclusiveSet) → c ≤ length xs → sets_of (min c r) xs ≡ take r (sets_of c xs)
+sets_front c r xs l =
+    ⊎_elim
+    (λ (h : r < c). let e : min c r ≡ r = omega arith in
+    ap (λ k. sets_of k xs) e ∙ sym (take-map set_model r (take c xs) ∙ ap (map set_model) (take-take r c xs (omega arith))))
+    (λ (h : c ≤ r). let e : min c r ≡ c = omega arith in
+    ap (λ k. sets_of k xs) e ∙ sym (take_all r (sets_of c xs) (omega (arith, length_sets c xs l))))
+    (cases_lt r c)

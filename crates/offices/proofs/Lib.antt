@@ -7,4 +7,5 @@ pub mod PairAnswers
 pub mod Props
 pub mod RowFacts
 pub mod Scanning
+pub mod SetRows
 pub mod SetShape

@@ -1,7 +1,10 @@
 -- A set that passes the tests has the shape of an exclusive set.
-use Rattle.std.proofs.Common.{◌≡◌, ℕ, zero, suc, ◌<◌, true, not, eqb, ltb, leb, List, [], ◌∷◌, length, get_or, sym, refl, ap, arith}
+use Rattle.std.proofs.Common.{◌≡◌, ℕ, zero, suc, ◌<◌, ◌≤◌, true, not, eqb, ltb, leb, List, [], ◌∷◌, ◌++◌, map, ◌+◌, take, set, length, get_or, sym, refl, ap, ◌∙◌, arith}
 use Rattle.std.specs.List.{AllByRecursion}
 use Rattle.std.proofs.lemmas.Bool.{and_parts, ltb-true, leb-true, eq-eqb, both_ways, not-true}
+use Rattle.std.proofs.lemmas.List.{take_more_set, map_push}
+use Rattle.offices.specs.Sets.{set_model, sets_of}
+use Rattle.offices.specs.declared.exclusive.ExclusiveSet.{ExclusiveSet}
 use Rattle.offices.specs.Drafting.{missing, all_differ, all_below}
 use Rattle.offices.specs.Model.{Shaped}
 use Rattle.offices.specs.Drafting.{good_set}
@@ -36,3 +39,9 @@ shaped_good n ms t h b =
       exist = exist n ms b;
       differ = differ ms s.1;
     }
+
+pub good_few : (ms : List ℕ) (t : ℕ) → good_set ms t ≡ true → length ms ≤ 8
+good_few ms t h = leb-true (length ms) 8 (and_parts (leb (length ms) 8) _ (and_parts (leb 2 (length ms)) _ h).1).0
+
+pub sets_push : (c : ℕ) (xs : List ExclusiveSet) (s : ExclusiveSet) → c < length xs → sets_of (c + 1) (set xs c s) ≡ sets_of c xs ++ (set_model s ∷ [])
+sets_push c xs s h = ap (map set_model) (take_more_set xs c s h) ∙ map_push set_model (take c xs) s

@@ -1,13 +1,13 @@
 -- What the shared part of an office says of it.
-use Rattle.std.specs.Prelude.{ℕ, Bool, List, map}
+use Rattle.std.specs.Prelude.{ℕ, Bool, List}
 use Rattle.offices.specs.Model.{OfficeModel, SetModel}
 use Rattle.offices.specs.Members.{holds}
-use Rattle.offices.specs.Sets.{set_model}
+use Rattle.offices.specs.Sets.{sets_of}
 use Rattle.offices.specs.declared.table.SetTable.{SetTable}
 use Rattle.offices.specs.declared.base.OfficeBase.{OfficeBase}
 
 abbrev pub table_sets : SetTable → List SetModel
-table_sets t = map set_model t.sets.items
+table_sets t = sets_of t.count t.sets
 
 abbrev pub table_roles : SetTable → ℕ
 table_roles t = t.roles

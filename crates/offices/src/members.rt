@@ -4,10 +4,12 @@ ghost use Rattle.offices.specs.Drafting.{all_differ, all_below, good_set};
 fn distinct(members: &[u8]) -> bool
     ensures { result ≡ all_differ members.now }
 {
-    match members.split_first() {
-        Some((first, rest)) => !rest.contains(first) && distinct(rest),
-        None => true,
+    for (at, role) in members.iter().enumerate() {
+        if members[at + 1..].contains(role) {
+            return false;
+        }
     }
+    true
 }
 
 // Whether each role is below `roles`.

@@ -1,4 +1,4 @@
-ghost use Rattle.std.specs.Prelude.{◌≡◌, ◌≤◌, min, [], length};
+ghost use Rattle.std.specs.Prelude.{◌≡◌, ◌≤◌, min, [], length, take};
 ghost use Rattle.offices.specs.Bases.{table_roles, table_sets};
 ghost use Rattle.offices.specs.Drafting.{set_answer, with_set};
 ghost use Rattle.offices.specs.Model.{bound_at, member_at};
@@ -8,14 +8,16 @@ use crate::exclusive::ExclusiveSet;
 use crate::members::{exist, well_formed};
 use crate::table::SetTable;
 use answers::Refusal;
-use arrayvec::ArrayVec;
 
 fn exclusive_set(members: &[u8], bound: u8) -> ExclusiveSet
     requires { length members.now ≤ 8 }
     ensures { set_model result ≡ record { members = members.entry.now; bound = bound } }
 {
+    let mut places = [0; 8];
+    places[..members.len()].copy_from_slice(members);
     ExclusiveSet {
-        members: ArrayVec::try_from(members).unwrap(),
+        members: places,
+        size: members.len() as u8,
         bound,
     }
 }
@@ -27,7 +29,8 @@ impl SetTable {
     {
         SetTable {
             roles: roles.min(64),
-            sets: ArrayVec::new(),
+            count: 0,
+            sets: [ExclusiveSet::default(); 8],
         }
     }
 
@@ -37,7 +40,8 @@ impl SetTable {
         ensures after { table_sets self.new ≡ with_set result (table_sets self.old) members.now bound }
         ensures kept { self.new.roles ≡ self.old.roles }
     {
-        if self.sets.is_full() {
+        let at = self.count;
+        if at >= 8 {
             return Err(Refusal::SetsFull);
         }
         if !well_formed(members, bound) {
@@ -46,7 +50,9 @@ impl SetTable {
         if !exist(members, self.roles) {
             return Err(Refusal::NoSuchRole);
         }
-        self.sets.push(exclusive_set(members, bound));
+        let set = exclusive_set(members, bound);
+        self.sets[at as usize] = set;
+        self.count = at + 1;
         Ok(())
     }
 
@@ -57,32 +63,40 @@ impl SetTable {
     {
         let roles = roles.min(64);
         let room = if self.roles > roles { 0 } else { room };
-        self.sets.truncate(room as usize);
+        self.count = self.count.min(room);
         self.roles = roles;
+    }
+
+    fn sets(&self) -> &[ExclusiveSet]
+        ensures { result.now ≡ take self.now.count self.now.sets }
+    {
+        &self.sets[..usize::from(self.count)]
     }
 
     pub fn roles(&self) -> u8
         ensures { result ≡ table_roles self.now }
     {
-        self.roles
+        let roles = self.roles;
+        roles
     }
 
     pub fn len(&self) -> u8
         ensures { result ≡ length (table_sets self.now) }
     {
-        self.sets.len() as u8
+        let count = self.count;
+        count
     }
 
     pub fn bound(&self, set: u8) -> u8
         ensures { result ≡ bound_at (table_sets self.now) set }
     {
-        self.sets.get(set as usize).map_or(0, |set| set.bound)
+        self.sets().get(usize::from(set)).map_or(0, |set| set.bound)
     }
 
     pub fn member(&self, set: u8, place: u8) -> Option<u8>
         ensures { result ≡ member_at (table_sets self.now) set place }
     {
-        let set = self.sets.get(set as usize)?;
-        set.members.get(place as usize).copied()
+        let set = self.sets().get(usize::from(set))?;
+        set.members().get(usize::from(place)).copied()
     }
 }
