@@ -1,4 +1,4 @@
-ghost use Rattle.std.specs.Prelude.{◌≡◌, length};
+ghost use Rattle.std.specs.Prelude.{◌≡◌, ◌≤◌, length};
 ghost use Rattle.list_office.specs.Pairs.{Acyclic, Rows};
 ghost use Rattle.offices.specs.Members.{row_holds};
 
@@ -12,6 +12,7 @@ use offices::RoleSet;
 pub struct PairList {
     pub(crate) pairs: ArrayVec<Pair, 128>,
     pub(crate) juniors: [RoleSet; 64],
+    ghost most: { length pairs.items ≤ 128 },
     ghost rows: { length juniors ≡ 64 },
     ghost steps: { ∥ Rows (row_holds juniors) pairs.items ∥₁ },
     ghost order: { ∥ Acyclic 64 pairs.items ∥₁ },

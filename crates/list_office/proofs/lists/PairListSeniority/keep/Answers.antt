@@ -1,4 +1,5 @@
 use Rattle.std.proofs.Common.{set, Ok, sym, ◌∙◌, subst, arith, length-set}
+use Rattle.std.proofs.lemmas.Bool.Decides.{nat_tests}
 use Rattle.offices.specs.Members.{row_holds}
 use Rattle.drafting.proofs.KeepAnswers.{storable_pair}
 use Rattle.list_office.specs.declared.pair.Pair.{Pair}
@@ -18,6 +19,7 @@ invariant_of-self c =
     let more = sym c.push.ensures.items in
     let juniors = set l.juniors p.senior c.with-below.result in
     record {
+      most = grind (arith, nat_tests);
       rows = length-set l.juniors p.senior c.with-below.result ∙ l.rows;
       steps = ∣ subst (Rows (row_holds juniors)) more (rows_push l.juniors (pairs_in l) p c.with-below.result (omega (arith, may.0)) may.1 (rows_from (row_holds l.juniors) (pairs_in l) l.steps) c.with-below.ensures) ∣₁;
       order = ∣ subst (Acyclic 64) more (acyclic_push 64 (pairs_in l) p (acyclic_from 64 (pairs_in l) l.order) may.0 may.1 (sym c.is_over.ensures ∙ may.2)) ∣₁;
