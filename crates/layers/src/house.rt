@@ -39,8 +39,7 @@ impl<O: Office> LayerDraft<HouseRules<O>> {
         ensures after { housed_as O.model self.new.layer ≡ after_set result (housed_as O.model self.old.layer) members.now bound }
         ensures below { self.new.layer.below ≡ self.old.layer.below }
     {
-        self.layer.fit();
-        if self.layer.set_count() >= 8 {
+        if self.layer.fit() >= 8 {
             return Err(Refusal::SetsFull);
         }
         self.layer.own.add(members, bound)
@@ -48,27 +47,27 @@ impl<O: Office> LayerDraft<HouseRules<O>> {
 }
 
 impl<O: Office> HouseRules<O> {
-    // Lets go of the own sets that do not count, so that each that is left does.
-    fn fit(&mut self)
+    // Lets go of the own sets that do not count, so that each that is left does, and says how many sets there are.
+    fn fit(&mut self) -> u8
         ensures model { housed_as O.model self.new ≡ housed_as O.model self.old }
         ensures below { self.new.below ≡ self.old.below }
         ensures roles { self.new.own.roles ≡ (O.model self.old.below).roles }
-        ensures room { length (O.model self.old.below).sets + length (table_sets self.new.own) ≤ 8 }
+        ensures count { result ≡ length (O.model self.old.below).sets + length (table_sets self.new.own) }
+        ensures room { result ≤ 8 }
     {
-        let roles = self.below.role_count();
-        let room = 8 - self.below.set_count();
-        self.own.fit(roles, room);
+        let lower = self.below.set_count();
+        self.own.fit(self.below.role_count(), 8 - lower);
+        lower + self.own.len()
     }
 
-    // The place in the own table of the set that answers. For any other the office below answers: the set is its
-    // own, or it has none.
+    // The place in the own table of a set that is not of the office below: past its end where the set does not count.
+    // (No `None` for such a set too: each layer below would be asked for it.)
     fn own_place(&self, set: u8) -> Option<u8>
         ensures { Answers result (O.model self.now.below) self.now.own set }
     {
-        if set >= self.set_count() {
-            return None;
-        }
-        set.checked_sub(self.below.set_count())
+        let place = set.checked_sub(self.below.set_count())?;
+        let counts = set < 8 && self.own.roles() <= self.below.role_count();
+        Some(if counts { place } else { self.own.len() })
     }
 }
 
