@@ -6,3 +6,4 @@ pub mod Listing
 pub mod Rows
 pub mod Collecting
 pub mod Folding
+pub mod Placing

@@ -20,6 +20,11 @@ bound_get_or (s ∷ ss) zero = refl
 bound_get_or (s ∷ ss) (suc k) = bound_get_or ss k
 
 module _ (n : ℕ) where
+  pub members_few : (sets : List SetModel) → AllByRecursion (Shaped n) sets → (k : ℕ) → length (members_at sets k) ≤ 8
+  members_few [] a k = omega arith
+  members_few (s ∷ ss) a zero = a.0.most
+  members_few (s ∷ ss) a (suc k) = members_few ss a.1 k
+
   pub members_exist : (sets : List SetModel) → AllByRecursion (Shaped n) sets → (k : ℕ) → AllByRecursion (λ r. r < n) (members_at sets k)
   members_exist [] a k = tt
   members_exist (s ∷ ss) a zero = a.0.exist

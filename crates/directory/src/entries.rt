@@ -23,10 +23,11 @@ impl OfficeEntry {
     pub(crate) fn read<O: Office>(office: &O) -> OfficeEntry
         ensures { entry_model result ≡ O.model office.now }
     {
+        let base = base_of(office);
         OfficeEntry {
-            base: base_of(office),
+            members: words_of(&base),
             juniors: seniority_of(office),
-            members: words_of(office),
+            base,
         }
     }
 

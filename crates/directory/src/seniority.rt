@@ -4,11 +4,14 @@ ghost use Rattle.offices.specs.Members.{holds, row_holds};
 use offices::{Office, RoleSet};
 use std::array;
 
-// The roles that `senior` is over.
-fn juniors_of<O: Office>(office: &O, senior: u8) -> RoleSet
+// The roles that `senior` is over, of the office's `roles` roles.
+fn juniors_of<O: Office>(office: &O, roles: u8, senior: u8) -> RoleSet
+    requires { roles ≡ (O.model office.now).roles }
     ensures { (i : ℕ) → holds result i ≡ (O.model office.now).over senior i }
 {
-    (0..office.role_count())
+    // a senior that is not there is over nobody: the office is not asked
+    let asked = if senior < roles { roles } else { 0 };
+    (0..asked)
         .filter(|junior| office.is_over(senior, *junior))
         .fold(RoleSet::empty(), RoleSet::with)
 }
@@ -17,5 +20,6 @@ fn juniors_of<O: Office>(office: &O, senior: u8) -> RoleSet
 pub(crate) fn seniority_of<O: Office>(office: &O) -> [RoleSet; 64]
     ensures { (a b : ℕ) → row_holds result a b ≡ (O.model office.now).over a b }
 {
-    array::from_fn(|senior| juniors_of(office, senior as u8))
+    let roles = office.role_count();
+    array::from_fn(|senior| juniors_of(office, roles, senior as u8))
 }

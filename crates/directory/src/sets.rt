@@ -7,7 +7,7 @@ use arrayvec::ArrayVec;
 use offices::{Office, OfficeBase};
 
 // The members of a set, in their order.
-pub(crate) fn listed_members<O: Office>(office: &O, set: u8) -> ArrayVec<u8, 8>
+fn listed_members<O: Office>(office: &O, set: u8) -> ArrayVec<u8, 8>
     ensures { result.items ≡ members_at (O.model office.now).sets set }
 {
     // A loop: `map_while` and `collect` into an `ArrayVec` would give a `Result`, and there is always room.
