@@ -1,4 +1,4 @@
-use Rattle.std.proofs.Common.{◌≡◌, ℕ, zero, suc, ◌+◌, ◌-◌, ◌<◌, ◌≤◌, List, [], ◌∷◌, length, get_or, take, drop, sym, ap, ◌∙◌, subst, arith, length-drop, drop-drop, eq-eqb, ne_eqb}
+use Rattle.std.proofs.Common.{◌≡◌, ℕ, zero, suc, ◌+◌, ◌-◌, ◌<◌, ◌≤◌, List, [], ◌∷◌, length, get_or, take, drop, sym, ap, ◌∙◌, subst, arith, length-drop, get_or-drop, drop-drop, eq-eqb, ne_eqb}
 use Rattle.std.specs.List.{HoldsAt, AllWithin}
 use Rattle.std.proofs.lemmas.List.{drop_all, take_all}
 use Rattle.sheets.specs.Lines.{lines_of}
@@ -26,6 +26,25 @@ line_last [] l h = absurd (omega arith)
 line_last (x ∷ []) l h = rw (ne_eqb x 10 (h 0 (omega arith)))
 line_last (x ∷ y ∷ ys) l h =
     rw (ne_eqb x 10 (h 0 (omega arith)), line_last (y ∷ ys) (omega arith) (λ k lt q. h (suc k) (omega arith) q))
+
+-- the same of a sheet from the place a on, with the line feed at e
+pub sheet_fed :
+    (s : List ℕ) (a e : ℕ) → a ≤ e → e < length s → ((k : ℕ) → a ≤ k → k < e → get_or s k 0 ≡ 10 → ⊥) → get_or s e 0 ≡ 10
+    → lines_of (drop a s) ≡ take (e - a) (drop a s) ∷ lines_of (drop (e + 1) s)
+sheet_fed s a e le lt h hit =
+    line_fed (drop a s) (e - a) (simp length-drop (omega arith))
+    (λ k l q. h (a + k) (omega arith) (omega arith) (sym (get_or-drop a s k 0) ∙ q))
+    (get_or-drop a s (e - a) 0 ∙ ap (λ (i : ℕ). get_or s i 0) (omega arith) ∙ hit)
+    ∙ ap (λ (t : List ℕ). take (e - a) (drop a s) ∷ lines_of t)
+    (drop-drop (suc (e - a)) a s ∙ ap (λ (i : ℕ). drop i s) (omega arith))
+
+pub sheet_last :
+    (s : List ℕ) (a e : ℕ) → a < length s → e ≡ length s → ((k : ℕ) → a ≤ k → k < e → get_or s k 0 ≡ 10 → ⊥)
+    → lines_of (drop a s) ≡ take (e - a) (drop a s) ∷ lines_of (drop e s)
+sheet_last s a e lt q h =
+    line_last (drop a s) (simp length-drop (omega arith))
+    (λ k l p. h (a + k) (omega arith) (omega (arith, length-drop a s)) (sym (get_or-drop a s k 0) ∙ p))
+    ∙ rw (lines_end s e (omega arith), take_all (e - a) (drop a s) (simp length-drop (omega arith)))
 
 -- the same of what is left of a sheet from the place a on, by the first line feed that was found there
 abbrev pub Fed : List ℕ → ℕ → ℕ → List ℕ → Type 0
