@@ -1,6 +1,6 @@
 -- What a bank with one office more answers.
-use Rattle.std.specs.Prelude.{◌≡◌, ℕ, ◌<◌, ◌≤◌, List, [], ◌∷◌, ◌++◌, length}
-use Rattle.std.proofs.Common.{sym, subst, ◌∙◌, ⊎_elim, arith}
+use Rattle.std.specs.Prelude.{◌≡◌, ℕ, ◌+◌, ◌<◌, ◌≤◌, ◌⊎◌, List, [], ◌∷◌, ◌++◌, length}
+use Rattle.std.proofs.Common.{sym, subst, ◌∙◌, inl, inr, ⊎_elim, arith}
 use Rattle.std.proofs.lemmas.List.{length_push, length-take, get_or-take, get_or_past, get_or_append_left, get_or_push}
 use Rattle.std.proofs.lemmas.Bool.{cases_lt, cases_eq, false≢true}
 use Rattle.offices.specs.Model.{OfficeModel, Lawful}
@@ -10,6 +10,17 @@ module _ (ms : List OfficeModel) (m : OfficeModel) where
   pub length_heard : length (with_office ms m) ≤ 16
   length_heard = simp length-take (omega arith)
 
+  pub length_with : (n : ℕ) → n ≡ length ms → n < 16 → n + 1 ≡ length (with_office ms m)
+  length_with n e l = simp (length-take, length_push) (omega arith)
+
+  pub length_full : 16 ≤ length ms → 16 ≡ length (with_office ms m)
+  length_full l = simp (length-take, length_push) (omega arith)
+
+  -- past the last office, or not heard
+  pub at_none : (k : ℕ) → (length ms < k) ⊎ (16 ≤ k) → office_at (with_office ms m) k ≡ no_office
+  at_none k (inl l) = get_or_past (with_office ms m) k no_office (simp (length-take, length_push) (omega arith))
+  at_none k (inr l) = get_or_past (with_office ms m) k no_office (simp (length-take, length_push) (omega arith))
+
   module _ (k : ℕ) where
     pub at_last : k ≡ length ms → k < 16 → office_at (with_office ms m) k ≡ m
     at_last e l = get_or-take 16 (ms ++ (m ∷ [])) k no_office l ∙ get_or_push ms m no_office k (sym e)
@@ -18,11 +29,11 @@ module _ (ms : List OfficeModel) (m : OfficeModel) where
     at_earlier l h = get_or-take 16 (ms ++ (m ∷ [])) k no_office (omega arith) ∙ get_or_append_left ms (m ∷ []) no_office k l
 
     -- what is past the last office, or not heard, is there in neither bank
-    pub at_none : length ms ≤ k → (k ≡ length ms → 16 ≤ k) → office_at (with_office ms m) k ≡ office_at ms k
-    at_none l h = get_or_past (with_office ms m) k no_office (simp (length-take, length_push) (grind arith)) ∙ sym (get_or_past ms k no_office l)
+    pub at_neither : length ms ≤ k → (k ≡ length ms → 16 ≤ k) → office_at (with_office ms m) k ≡ office_at ms k
+    at_neither l h = get_or_past (with_office ms m) k no_office (simp (length-take, length_push) (grind arith)) ∙ sym (get_or_past ms k no_office l)
 
     pub at_other : length ms ≤ 16 → (k ≡ length ms → 16 ≤ k) → office_at (with_office ms m) k ≡ office_at ms k
-    at_other few h = ⊎_elim (λ (l : k < length ms). at_earlier l few) (λ (l : length ms ≤ k). at_none l h) (cases_lt k (length ms))
+    at_other few h = ⊎_elim (λ (l : k < length ms). at_earlier l few) (λ (l : length ms ≤ k). at_neither l h) (cases_lt k (length ms))
 
 pub none_lawful : Lawful no_office
 none_lawful = record {
