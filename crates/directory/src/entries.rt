@@ -26,7 +26,7 @@ impl OfficeEntry {
         let base = base_of(office);
         OfficeEntry {
             members: words_of(&base),
-            juniors: seniority_of(office),
+            juniors: seniority_of(office, base.role_count()),
             base,
         }
     }

@@ -16,10 +16,10 @@ fn juniors_of<O: Office>(office: &O, roles: u8, senior: u8) -> RoleSet
         .fold(RoleSet::empty(), RoleSet::with)
 }
 
-// For each role the roles that it is over.
-pub(crate) fn seniority_of<O: Office>(office: &O) -> [RoleSet; 64]
+// For each of the office's `roles` roles the roles that it is over.
+pub(crate) fn seniority_of<O: Office>(office: &O, roles: u8) -> [RoleSet; 64]
+    requires { roles ≡ (O.model office.now).roles }
     ensures { (a b : ℕ) → row_holds result a b ≡ (O.model office.now).over a b }
 {
-    let roles = office.role_count();
     array::from_fn(|senior| juniors_of(office, roles, senior as u8))
 }
