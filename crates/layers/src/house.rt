@@ -21,6 +21,15 @@ pub struct HouseRules<O: Office> {
 // House rules under drafting.
 pub type HouseDraft<O> = LayerDraft<HouseRules<O>>;
 
+// Who answers for a set: the office below, the own table at a place, or nobody. (As an `Option` of a place a set that is not
+// there would be asked of each layer below, and twice as long at each.)
+#[derive(Clone, Copy)]
+pub(crate) enum Answerer {
+    Lower,
+    Own(u8),
+    Nobody,
+}
+
 impl<O: Office> LayerDraft<HouseRules<O>> {
     // No house rule yet.
     pub fn new(below: O) -> HouseDraft<O>
@@ -60,14 +69,19 @@ impl<O: Office> HouseRules<O> {
         lower + self.own.len()
     }
 
-    // The place in the own table of a set that is not of the office below: past its end where the set does not count.
-    // (No `None` for such a set too: each layer below would be asked for it.)
-    fn own_place(&self, set: u8) -> Option<u8>
+    fn answerer(&self, set: u8) -> Answerer
         ensures { Answers result (O.model self.now.below) self.now.own set }
     {
-        let place = set.checked_sub(self.below.set_count())?;
-        let counts = set < 8 && self.own.roles() <= self.below.role_count();
-        Some(if counts { place } else { self.own.len() })
+        let lower = self.below.set_count();
+        if set < lower {
+            Answerer::Lower
+        } else if set >= 8 {
+            Answerer::Nobody
+        } else if self.own.roles() > self.below.role_count() {
+            Answerer::Nobody
+        } else {
+            Answerer::Own(set - lower)
+        }
     }
 }
 
@@ -99,16 +113,18 @@ impl<O: Office> Office for HouseRules<O> {
     }
 
     fn set_bound(&self, set: u8) -> u8 {
-        match self.own_place(set) {
-            Some(at) => self.own.bound(at),
-            None => self.below.set_bound(set),
+        match self.answerer(set) {
+            Answerer::Lower => self.below.set_bound(set),
+            Answerer::Own(at) => self.own.bound(at),
+            Answerer::Nobody => 0,
         }
     }
 
     fn set_member(&self, set: u8, place: u8) -> Option<u8> {
-        match self.own_place(set) {
-            Some(at) => self.own.member(at, place),
-            None => self.below.set_member(set, place),
+        match self.answerer(set) {
+            Answerer::Lower => self.below.set_member(set, place),
+            Answerer::Own(at) => self.own.member(at, place),
+            Answerer::Nobody => None,
         }
     }
 }
