@@ -21,8 +21,8 @@ pub struct HouseRules<O: Office> {
 // House rules under drafting.
 pub type HouseDraft<O> = LayerDraft<HouseRules<O>>;
 
-// Who answers for a set: the office below, the own table at a place, or nobody. (As an `Option` of a place a set that is not
-// there would be asked of each layer below, and twice as long at each.)
+// Who answers for a set: the office below, the own table at a place, or nobody. (As an `Option` of a place it takes a quarter
+// to a third longer to ask.)
 #[derive(Clone, Copy)]
 pub(crate) enum Answerer {
     Lower,
